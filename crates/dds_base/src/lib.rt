@@ -1,0 +1,13 @@
+//! The types that every other crate speaks of: numbers with their ranges, leaves of the partition map, operations
+//! and their replies, lists, and the byte sources and sinks of the outside.
+#![tactic(auto)]
+
+pub mod brick_list;
+pub mod items;
+pub mod leaf;
+pub mod memory;
+pub mod name;
+pub mod node_set;
+pub mod number;
+pub mod op;
+pub mod value;
