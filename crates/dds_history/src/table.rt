@@ -1,0 +1,106 @@
+//! A table in memory, seen as the finite map that callers see.
+
+ghost use Rattle.std.specs.Prelude.{◌≡◌, OnOk, OnErr, IfOk, option_copied};
+ghost use Rattle.std.specs.FinMap as map;
+ghost use Rattle.dds_history.specs.Map.{after, reply_to, is_bound_to};
+
+use dds_base::memory::Memory;
+use dds_base::op::{Op, Reply};
+use dds_base::value::Value;
+use std::alloc::Global;
+use std::collections::BTreeMap;
+use std::marker::Model;
+
+/// A map from keys to values.
+#[derive(Drop)]
+pub struct Table {
+    pairs: BTreeMap<u64, Value>,
+}
+
+impl Model for Table {
+    ghost use Rattle.std.specs.FinMap as map;
+    ghost use Rattle.dds_history.specs.Map.{Map, map_code};
+
+    ghost Value = { Map };
+
+    ghost coded = { map_code };
+
+    ghost view = { λ a. map.from_entries a.pairs.entries };
+}
+
+impl Table {
+    /// The empty table; takes no memory.
+    pub fn new(alloc: Global) -> Table
+        ensures { result ≡ map.empty }
+    {
+        Table {
+            pairs: BTreeMap::new(alloc),
+        }
+    }
+
+    pub fn get(&self, key: u64) -> Option<&Value>
+        ensures { option_copied result ≡ map.get self.now key }
+    {
+        self.pairs.get(&key)
+    }
+
+    /// Binds the key; whether it was bound before.
+    pub fn insert(&mut self, key: u64, value: Value) -> Result<bool, Memory>
+        ensures ok { OnOk result (self.new ≡ map.insert self.old key value) }
+        ensures was { IfOk result (λ was. was ≡ map.contains_key self.old key) }
+        ensures err { OnErr result (self.new ≡ self.old) }
+    {
+        let before = self.pairs.insert(key, value)?;
+        Ok(before.is_some())
+    }
+
+    /// Unbinds the key; whether it was bound before. Takes no memory.
+    pub fn remove(&mut self, key: u64) -> bool
+        ensures table { self.new ≡ map.remove self.old key }
+        ensures was { result ≡ map.contains_key self.old key }
+    {
+        self.pairs.remove(&key).is_some()
+    }
+
+    /// Does an operation and gives its reply.
+    pub fn apply(&mut self, op: &Op) -> Result<Reply, Memory>
+        ensures ok { OnOk result (self.new ≡ after self.old op.now) }
+        ensures reply { IfOk result (λ reply. reply ≡ reply_to self.old op.now) }
+        ensures err { OnErr result (self.new ≡ self.old) }
+    {
+        match op {
+            Op::Get { key } => match self.get(*key) {
+                None => Ok(Reply::Absent),
+                Some(value) => Ok(Reply::Value(value.copy()?)),
+            },
+            Op::Put { key, value } => {
+                let was = self.insert(*key, value.copy()?)?;
+                Ok(Reply::Done { was })
+            }
+            Op::Remove { key } => Ok(Reply::Done {
+                was: self.remove(*key),
+            }),
+            Op::Swap {
+                key,
+                expected,
+                value,
+            } => {
+                if !is_bound_to(self.get(*key), expected) {
+                    return Ok(Reply::Swapped { done: false });
+                }
+                self.insert(*key, value.copy()?)?;
+                Ok(Reply::Swapped { done: true })
+            }
+        }
+    }
+}
+
+/// Whether a key's binding is exactly these bytes.
+pub fn is_bound_to(bound: Option<&Value>, bytes: &Value) -> bool
+    ensures { result ≡ is_bound_to (option_copied bound.entry) bytes.now }
+{
+    match bound {
+        None => false,
+        Some(value) => value.same(bytes),
+    }
+}
