@@ -1,3 +1,4 @@
 pub mod Names
 pub mod Sets
 pub mod Bricks
+pub mod Outside

@@ -5,3 +5,4 @@ pub mod ShortList
 pub mod BrickList
 pub mod Value
 pub mod Op
+pub mod Outside

@@ -1,6 +1,7 @@
 //! The one generic list behind every list type. Contracts see the list of its items.
 
-ghost use Rattle.std.specs.Prelude.{◌≡◌, ◌==◌, ◌<◌, ◌++◌, [], ◌∷◌, length, slice_index_or, OnOk, OnErr};
+ghost use Rattle.std.specs.Prelude.{◌≡◌, ◌==◌, ◌<◌, ◌≤◌, ◌++◌, [], ◌∷◌, length, slice_index_or, slice_set, OnOk, OnErr};
+ghost use Rattle.std.specs.List.{insert, remove};
 
 use crate::memory::Memory;
 use std::alloc::Global;
@@ -61,5 +62,33 @@ impl<T: Drop> Items<T> {
         ensures { result.now ≡ self.now }
     {
         self.content.as_slice()
+    }
+
+    /// Puts an item in the place of another, which it gives back.
+    pub fn replace(&mut self, place: usize, item: T) -> T
+        requires { place < length self.old }
+        ensures value { result ≡ slice_index_or self.old place result }
+        ensures items { self.new ≡ slice_set self.old place item }
+    {
+        std::mem::replace(&mut self.content[place], item)
+    }
+
+    /// Takes an item out; those behind it move up.
+    pub fn remove(&mut self, place: usize) -> T
+        requires { place < length self.old }
+        ensures value { result ≡ slice_index_or self.old place result }
+        ensures items { self.new ≡ remove self.old place }
+    {
+        self.content.remove(place)
+    }
+
+    /// Puts an item at a place; those from there on move back.
+    pub fn insert(&mut self, place: usize, item: T) -> Result<(), Memory>
+        requires { place ≤ length self.old }
+        ensures ok { OnOk result (self.new ≡ insert self.old place item) }
+        ensures err { OnErr result (self.new ≡ self.old) }
+    {
+        self.content.insert(place, item)?;
+        Ok(())
     }
 }

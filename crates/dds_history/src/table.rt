@@ -2,7 +2,8 @@
 
 ghost use Rattle.std.specs.Prelude.{◌≡◌, OnOk, OnErr, IfOk, option_copied};
 ghost use Rattle.std.specs.FinMap as map;
-ghost use Rattle.dds_history.specs.Map.{after, reply_to, is_bound_to};
+ghost use Rattle.dds_base.specs.Op.{the_key};
+ghost use Rattle.dds_history.specs.Map.{after, reply_to, reply_with, flag_of, is_bound_to};
 
 use dds_base::memory::Memory;
 use dds_base::op::{Op, Reply};
@@ -62,6 +63,31 @@ impl Table {
         self.pairs.remove(&key).is_some()
     }
 
+    /// Does an operation. Of an update, the flag says what it found: a swap, whether the key was bound to the expected
+    /// bytes; another one, whether the key was there.
+    pub fn update(&mut self, op: &Op) -> Result<bool, Memory>
+        ensures ok { OnOk result (self.new ≡ after self.old op.now) }
+        ensures flag { IfOk result (λ flag. flag ≡ flag_of (map.get self.old (the_key op.now)) op.now) }
+        ensures err { OnErr result (self.new ≡ self.old) }
+    {
+        match op {
+            Op::Get { key } => Ok(self.get(*key).is_some()),
+            Op::Put { key, value } => Ok(self.insert(*key, value.copy()?)?),
+            Op::Remove { key } => Ok(self.remove(*key)),
+            Op::Swap {
+                key,
+                expected,
+                value,
+            } => {
+                if !is_bound_to(self.get(*key), expected) {
+                    return Ok(false);
+                }
+                self.insert(*key, value.copy()?)?;
+                Ok(true)
+            }
+        }
+    }
+
     /// Does an operation and gives its reply.
     pub fn apply(&mut self, op: &Op) -> Result<Reply, Memory>
         ensures ok { OnOk result (self.new ≡ after self.old op.now) }
@@ -73,25 +99,27 @@ impl Table {
                 None => Ok(Reply::Absent),
                 Some(value) => Ok(Reply::Value(value.copy()?)),
             },
-            Op::Put { key, value } => {
-                let was = self.insert(*key, value.copy()?)?;
-                Ok(Reply::Done { was })
-            }
-            Op::Remove { key } => Ok(Reply::Done {
-                was: self.remove(*key),
-            }),
-            Op::Swap {
-                key,
-                expected,
-                value,
-            } => {
-                if !is_bound_to(self.get(*key), expected) {
-                    return Ok(Reply::Swapped { done: false });
-                }
-                self.insert(*key, value.copy()?)?;
-                Ok(Reply::Swapped { done: true })
+            _ => {
+                let flag = self.update(op)?;
+                Ok(reply_with(op, flag))
             }
         }
+    }
+}
+
+/// An update's reply with its flag.
+pub fn reply_with(op: &Op, flag: bool) -> Reply
+    ensures { result ≡ reply_with op.now flag }
+{
+    match op {
+        Op::Get { key: _ } => Reply::Done { was: flag },
+        Op::Put { key: _, value: _ } => Reply::Done { was: flag },
+        Op::Remove { key: _ } => Reply::Done { was: flag },
+        Op::Swap {
+            key: _,
+            expected: _,
+            value: _,
+        } => Reply::Swapped { done: flag },
     }
 }
 

@@ -1,0 +1,5 @@
+//! The top call: a command's words, a source and a sink.
+#![tactic(auto)]
+
+pub mod ended;
+pub mod steps;

@@ -1,0 +1,6 @@
+pub mod World
+pub mod Turn
+pub mod Trace
+pub mod Stands
+pub mod Picking
+pub mod Walk

@@ -1,0 +1,40 @@
+//! The steps of the cluster.
+
+use dds_base::items::Items;
+use dds_base::number::{CallNo, CallerNo, NodeNo};
+use dds_base::op::Op;
+use dds_letters::letter::Letter;
+
+/// The most events of a `quiet` line.
+pub const EVENTS: u64 = 1_000_000;
+
+/// What comes to a node from outside.
+#[derive(Debug, Drop)]
+pub enum Input {
+    Call {
+        caller: CallerNo,
+        call: CallNo,
+        op: Op,
+    },
+}
+
+/// One event. `Input` gives a node a call; `Handle` takes the first letter of the link from `from` to the node; `Post`
+/// moves the first letter of the node's outbox to its link.
+#[derive(Debug, Drop)]
+pub enum Step {
+    Input { node: NodeNo, input: Input },
+    Handle { node: NodeNo, from: NodeNo },
+    Post { node: NodeNo },
+}
+
+/// Steps in their order.
+pub type Journal = Items<Step>;
+
+/// A letter in an outbox or on a link, with its receiver. Its number is counted over the cluster from 0 in the order of
+/// making.
+#[derive(Debug, Drop)]
+pub struct Message {
+    pub number: u64,
+    pub to: NodeNo,
+    pub letter: Letter,
+}
