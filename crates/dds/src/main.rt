@@ -5,13 +5,15 @@ use dds_base::std_edge::{StdSink, StdSource};
 use dds_cli::ended::End;
 use dds_cli::steps::run_steps;
 use dds_script::script_error::{ScriptFault, ScriptKind};
-use std::env::Env;
 use std::io::BufWriter;
 use std::process::ExitCode;
 use std::{env, io};
 
 fn main(rt: HostRuntime) -> io::Result<ExitCode> {
-    let words = words(&rt)?;
+    let mut words = Vec::new(rt.alloc());
+    for word in env::args(&rt)?.skip(1) {
+        words.push(word)?;
+    }
     let mut source = StdSource::new(rt.stdin());
     let mut sink = StdSink::new(BufWriter::new(rt.alloc(), rt.stdout())?);
     let ended = run_steps(rt.alloc(), words.as_slice(), &mut source, &mut sink);
@@ -22,15 +24,6 @@ fn main(rt: HostRuntime) -> io::Result<ExitCode> {
     };
     tell(&rt, end)?;
     Ok(ExitCode::from(end.status()))
-}
-
-/// The program's words, without its name.
-fn words<R: Env + AllocGlobal>(rt: &R) -> io::Result<Vec<String>> {
-    let mut words = Vec::new(rt.alloc());
-    for word in env::args(rt)?.skip(1) {
-        words.push(word)?;
-    }
-    Ok(words)
 }
 
 /// Says on standard error why the command did not finish.

@@ -1,6 +1,6 @@
 //! The members of a replica group: at most eight bricks, each once, in an array.
 
-ghost use Rattle.std.specs.Prelude.{◌≡◌, ◌<◌, ◌≤◌, ◌++◌, [], ◌∷◌, IsTrue, length, slice_index, if◌then◌else◌};
+ghost use Rattle.std.specs.Prelude.{◌≡◌, ◌==◌, false, ◌<◌, ◌≤◌, ◌++◌, [], ◌∷◌, IsTrue, length, slice_index, if◌then◌else◌};
 ghost use Rattle.dds_base.specs.BrickList.{is_brick_list, are_bricks, has};
 
 use crate::number::{BRICKS, NodeNo};
@@ -99,6 +99,7 @@ impl BrickList {
     pub fn len(&self) -> usize
         ensures value { result ≡ length self.now }
         ensures range { (0 < result) × (result ≤ 8) }
+        ensures bricks { IsTrue (are_bricks self.now) }
     {
         self.members.len()
     }
@@ -140,9 +141,32 @@ impl LiveList {
         }
     }
 
+    /// Adds a brick behind the others.
+    pub fn push(&mut self, brick: NodeNo)
+        requires room { length self.old < 8 }
+        requires brick { brick < 64 }
+        requires new { has self.old brick ≡ false }
+        ensures { self.new ≡ self.old ++ brick ∷ [] }
+    {
+        self.members.push(brick.number());
+    }
+
+    /// The same members as a replica group; `None` where there are none.
+    pub fn group(&self) -> Option<BrickList>
+        ensures { result ≡ (if length self.now == 0 then None else Some self.now) }
+    {
+        if self.members.len() == 0 {
+            return None;
+        }
+        Some(BrickList {
+            members: self.members,
+        })
+    }
+
     pub fn len(&self) -> usize
         ensures value { result ≡ length self.now }
         ensures range { result ≤ 8 }
+        ensures bricks { IsTrue (are_bricks self.now) }
     {
         self.members.len()
     }

@@ -3,3 +3,5 @@
 
 pub mod ended;
 pub mod steps;
+#[cfg(test)]
+mod tests;

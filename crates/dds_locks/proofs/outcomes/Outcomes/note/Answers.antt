@@ -1,0 +1,6 @@
+use Rattle.dds_locks.proofs.Seen.{insert-seen}
+use Rattle.dds_locks.proofs.Txns.{txn_total, txn_antisymmetric}
+use Rattle.dds_locks.proofs.outcomes.Outcomes.note.Goals as goal
+
+pub returns-clause-ok : goal.returns-clause-ok
+returns-clause-ok c = rw (← c.self.view_is) (insert-seen txn_total txn_antisymmetric c.self.inside.noted c.insert.new.self c.args.txn c.args.committed c.in_ok-insert.ensures.updates.0)

@@ -1,0 +1,6 @@
+//! The partition map of a node.
+#![tactic(auto)]
+
+pub mod maps;
+#[cfg(test)]
+mod tests;

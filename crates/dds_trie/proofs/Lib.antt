@@ -1,0 +1,4 @@
+pub mod Seen
+pub mod Cuts
+pub mod Lookups
+pub mod Overlaps
