@@ -9,47 +9,51 @@ use std::io::BufWriter;
 use std::process::ExitCode;
 use std::{env, io};
 
-fn main(rt: HostRuntime) -> io::Result<ExitCode> {
+fn main(rt: HostRuntime) -> ExitCode {
+    let end = match command(&rt) {
+        Ok(end) => end,
+        Err(_) => End::Memory,
+    };
+    let _ = tell(&rt, end);
+    ExitCode::from(end.status())
+}
+
+/// Carries out the program's words. Only want of memory for the words or for the output's buffer is an error here.
+fn command(rt: &HostRuntime) -> io::Result<End> {
     let mut words = Vec::new(rt.alloc());
-    for word in env::args(&rt)?.skip(1) {
+    for word in env::args(rt)?.skip(1) {
         words.push(word)?;
     }
     let mut source = StdSource::new(rt.stdin());
     let mut sink = StdSink::new(BufWriter::new(rt.alloc(), rt.stdout())?);
-    let ended = run_steps(rt.alloc(), words.as_slice(), &mut source, &mut sink);
-    let flushed = sink.flush();
-    let end = match (ended.end, flushed) {
+    let end = run_steps(rt.alloc(), words.as_slice(), &mut source, &mut sink).end;
+    Ok(match (end, sink.flush()) {
         (End::Finished, Err(_)) => End::WriteFault,
         (end, _) => end,
-    };
-    tell(&rt, end)?;
-    Ok(ExitCode::from(end.status()))
+    })
 }
 
 /// Says on standard error why the command did not finish.
 fn tell(rt: &impl Eprint, end: End) -> io::Result<()> {
-    match end {
-        End::Finished => Ok(()),
-        End::Usage => eprintln!(rt; "usage: dds step [PREFIX] | threads WORKERS | load CALLS SEED"),
-        End::TooLong => eprintln!(rt; "script too long"),
-        End::ReadFault => eprintln!(rt; "read failed"),
+    let name = match end {
+        End::Finished => return Ok(()),
         End::Script(ScriptFault { line, kind }) => {
-            let name = kind_name(kind);
-            eprintln!(rt; "line {line}: {name}")
+            let kind = match kind {
+                ScriptKind::NoEnd => "NoEnd",
+                ScriptKind::Form => "Form",
+                ScriptKind::Place => "Place",
+                ScriptKind::Number => "Number",
+                ScriptKind::Value => "Value",
+                ScriptKind::Cover => "Cover",
+                ScriptKind::Later => "Later",
+            };
+            return eprintln!(rt; "line {line}: {kind}");
         }
-        End::WriteFault => eprintln!(rt; "write failed"),
-        End::Memory => eprintln!(rt; "no memory"),
-    }
-}
-
-fn kind_name(kind: ScriptKind) -> &'static str {
-    match kind {
-        ScriptKind::NoEnd => "NoEnd",
-        ScriptKind::Form => "Form",
-        ScriptKind::Place => "Place",
-        ScriptKind::Number => "Number",
-        ScriptKind::Value => "Value",
-        ScriptKind::Cover => "Cover",
-        ScriptKind::Later => "Later",
-    }
+        End::Usage => "usage: dds step [PREFIX] | threads WORKERS | load CALLS SEED",
+        End::TooLong => "script too long",
+        End::ReadFault => "read failed",
+        End::WriteFault => "write failed",
+        End::Memory => "no memory",
+    };
+    eprintln!(rt; "{name}")
 }
