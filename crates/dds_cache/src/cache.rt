@@ -1,0 +1,304 @@
+//! A cache over a disk: pages that were read or written are held, the least recently used leaves.
+
+ghost use Rattle.std.specs.Prelude.{◌≡◌, ℕ, ◌≤◌, List, length, Some, None, [], IfOk, OnOk, OnErr, IsErrOf, IsTrue, is_some, true, false};
+ghost use Rattle.dds_base.specs.Outside.{Rose};
+ghost use Rattle.dds_disk.specs.Pages.{ReadPage, WrotePage};
+ghost use Rattle.dds_cache.specs.declared.cache.CacheFault.TheVariants.{Memory as NoMemory};
+ghost use Rattle.dds_cache.specs.Kept.{CacheState, held, after_use};
+
+use crate::recent::{hold, hold_again, look, take_back, trim};
+use dds_base::memory::Memory;
+use dds_disk::disk::{Disk, DiskError};
+use dds_disk::page::Page;
+use lru::LruCache;
+use std::alloc::Global;
+use std::marker::Model;
+use std::num::NonZeroUsize;
+
+/// The most pages that a cache may hold.
+pub const CAPACITY: usize = 4_096;
+
+/// Why a call of a cache did nothing: its disk failed, and the disk's count of faults rose; or
+/// there was no memory.
+#[derive(Clone, Copy, Debug, PartialEq, Eq)]
+pub enum CacheFault {
+    Disk,
+    Memory,
+}
+
+impl From<Memory> for CacheFault {
+    ghost from_gives = { λ _ e. e ≡ NoMemory };
+
+    fn from(_: Memory) -> CacheFault {
+        CacheFault::Memory
+    }
+}
+
+/// Reads a page from the disk.
+fn read_from<D: Disk>(disk: &mut D, page: u64, into: &mut [u8; 4_096]) -> Result<(), CacheFault>
+    ensures gives { OnOk result (ReadPage (D.pages disk.old) page into.new (D.pages disk.new)) }
+    ensures err { OnErr result (D.pages disk.new ≡ D.pages disk.old) }
+    ensures rose { IsErrOf result CacheFault.Disk → Rose (D.faults disk.old) (D.faults disk.new) }
+    ensures steady { OnOk result (D.faults disk.new ≡ D.faults disk.old) }
+    ensures never_falls { D.faults disk.old ≤ D.faults disk.new }
+{
+    match disk.read(page, into) {
+        Ok(()) => Ok(()),
+        Err(DiskError::Failed) => Err(CacheFault::Disk),
+        Err(DiskError::Memory) => Err(CacheFault::Memory),
+    }
+}
+
+/// Writes a page to the disk.
+fn write_to<D: Disk>(disk: &mut D, page: u64, bytes: &[u8; 4_096]) -> Result<(), CacheFault>
+    ensures wrote { OnOk result (WrotePage (D.pages disk.old) page bytes.now (D.pages disk.new)) }
+    ensures err { OnErr result (D.pages disk.new ≡ D.pages disk.old) }
+    ensures rose { IsErrOf result CacheFault.Disk → Rose (D.faults disk.old) (D.faults disk.new) }
+    ensures steady { OnOk result (D.faults disk.new ≡ D.faults disk.old) }
+    ensures never_falls { D.faults disk.old ≤ D.faults disk.new }
+{
+    match disk.write(page, bytes) {
+        Ok(()) => Ok(()),
+        Err(DiskError::Failed) => Err(CacheFault::Disk),
+        Err(DiskError::Memory) => Err(CacheFault::Memory),
+    }
+}
+
+/// A disk's pages, of which the ones used last are held in memory. Each write goes to the disk
+/// before it is answered, so where the disk tells its pages, those are the cache's pages at all
+/// times. Over any other disk a page that is held is what was last read or written there.
+#[derive(Drop)]
+pub struct Cache<D: Disk> {
+    alloc: Global,
+    disk: D,
+    pages: LruCache<u64, Page>,
+    capacity: usize,
+}
+
+impl<D: Disk> Model for Cache<D> {
+    ghost use Rattle.dds_cache.specs.Kept.{CacheState, cache_code, IsSound};
+
+    ghost Value = { CacheState D };
+
+    ghost coded = { cache_code D.code };
+
+    ghost view = { λ a. record { disk = a.disk; kept = a.pages.entries; capacity = a.capacity } };
+
+    ghost invariant = { λ a. IsSound (D.pages a.disk) a.pages.entries a.pages.cap a.capacity };
+}
+
+impl<D: Disk> Cache<D> {
+    /// Makes a cache that holds nothing yet. Where it answers `Memory`, the disk was dropped.
+    pub fn new(alloc: Global, disk: D, capacity: usize) -> Result<Cache<D>, Memory>
+        requires some { 1 ≤ capacity }
+        requires most { capacity ≤ 4096 }
+        ensures { IfOk result (λ cache. cache ≡ record { disk = disk; kept = []; capacity = capacity }) }
+    {
+        let room = NonZeroUsize::new(capacity + 1).unwrap();
+        let pages = LruCache::new(alloc, room)?;
+        Ok(Cache {
+            alloc,
+            disk,
+            pages,
+            capacity,
+        })
+    }
+
+    /// Copies the page to `into` where it is held, with no call of the disk.
+    fn find(&mut self, page: u64, into: &mut [u8; 4_096]) -> bool
+        ensures found { IsTrue result → (held self.old.kept page ≡ Some into.new) × (self.new ≡ record self.old { kept = after_use self.old.capacity self.old.kept page into.new }) }
+        ensures gives { IsTrue result → ReadPage (D.pages self.old.disk) page into.new (D.pages self.old.disk) }
+        ensures missing { result ≡ false → (held self.old.kept page ≡ None) × (self.new ≡ self.old) }
+    {
+        look(&mut self.pages, page, into)
+    }
+
+    /// Reads a page that isn't held from the disk, and holds it.
+    fn fetch(&mut self, page: u64, into: &mut [u8; 4_096]) -> Result<(), CacheFault>
+        ensures gives { OnOk result (ReadPage (D.pages self.old.disk) page into.new (D.pages self.new.disk)) }
+        ensures kept { OnOk result (self.new.kept ≡ after_use self.old.capacity self.old.kept page into.new) }
+        ensures capacity { self.new.capacity ≡ self.old.capacity }
+        ensures err_pages { OnErr result (D.pages self.new.disk ≡ D.pages self.old.disk) }
+        ensures err_kept { OnErr result (self.new.kept ≡ self.old.kept) }
+        ensures rose { IsErrOf result CacheFault.Disk → Rose (D.faults self.old.disk) (D.faults self.new.disk) }
+        ensures steady { OnOk result (D.faults self.new.disk ≡ D.faults self.old.disk) }
+        ensures never_falls { D.faults self.old.disk ≤ D.faults self.new.disk }
+    {
+        read_from(&mut self.disk, page, into)?;
+        let copy = Page::of(self.alloc, into)?;
+        hold(&mut self.pages, page, copy)?;
+        trim(&mut self.pages, self.capacity);
+        Ok(())
+    }
+
+    /// Gives the page. One that is held is given with no call of the disk, and any other with one
+    /// read. The page is then the one that was used last.
+    pub fn read(&mut self, page: u64) -> Result<[u8; 4_096], CacheFault>
+        ensures held { (bytes : List ℕ) → held self.old.kept page ≡ Some bytes → (result ≡ Ok bytes) × (self.new.disk ≡ self.old.disk) }
+        ensures gives { IfOk result (λ bytes. ReadPage (D.pages self.old.disk) page bytes (D.pages self.new.disk)) }
+        ensures kept { IfOk result (λ bytes. self.new.kept ≡ after_use self.old.capacity self.old.kept page bytes) }
+        ensures capacity { self.new.capacity ≡ self.old.capacity }
+        ensures err_pages { OnErr result (D.pages self.new.disk ≡ D.pages self.old.disk) }
+        ensures err_kept { OnErr result (self.new.kept ≡ self.old.kept) }
+        ensures rose { IsErrOf result CacheFault.Disk → Rose (D.faults self.old.disk) (D.faults self.new.disk) }
+        ensures steady { OnOk result (D.faults self.new.disk ≡ D.faults self.old.disk) }
+        ensures never_falls { D.faults self.old.disk ≤ D.faults self.new.disk }
+    {
+        let mut bytes = [0; 4_096];
+        if !self.find(page, &mut bytes) {
+            self.fetch(page, &mut bytes)?;
+        }
+        Ok(bytes)
+    }
+
+    /// Writes a page that is held to the disk, and then holds these bytes of it.
+    fn write_held(&mut self, page: u64, bytes: &[u8; 4_096], copy: Page) -> Result<(), CacheFault>
+        requires there { is_some (held self.old.kept page) ≡ true }
+        requires same { copy ≡ bytes.now }
+        ensures wrote { OnOk result (WrotePage (D.pages self.old.disk) page bytes.now (D.pages self.new.disk)) }
+        ensures kept { OnOk result (self.new.kept ≡ after_use self.old.capacity self.old.kept page bytes.now) }
+        ensures capacity { self.new.capacity ≡ self.old.capacity }
+        ensures err_pages { OnErr result (D.pages self.new.disk ≡ D.pages self.old.disk) }
+        ensures err_kept { OnErr result (self.new.kept ≡ self.old.kept) }
+        ensures rose { IsErrOf result CacheFault.Disk → Rose (D.faults self.old.disk) (D.faults self.new.disk) }
+        ensures steady { OnOk result (D.faults self.new.disk ≡ D.faults self.old.disk) }
+        ensures never_falls { D.faults self.old.disk ≤ D.faults self.new.disk }
+    {
+        write_to(&mut self.disk, page, bytes)?;
+        hold_again(&mut self.pages, page, copy);
+        Ok(())
+    }
+
+    /// Holds a page that isn't held, and writes it to the disk.
+    fn write_new(&mut self, page: u64, bytes: &[u8; 4_096], copy: Page) -> Result<(), CacheFault>
+        requires missing { is_some (held self.old.kept page) ≡ false }
+        requires same { copy ≡ bytes.now }
+        ensures wrote { OnOk result (WrotePage (D.pages self.old.disk) page bytes.now (D.pages self.new.disk)) }
+        ensures kept { OnOk result (self.new.kept ≡ after_use self.old.capacity self.old.kept page bytes.now) }
+        ensures capacity { self.new.capacity ≡ self.old.capacity }
+        ensures err_pages { OnErr result (D.pages self.new.disk ≡ D.pages self.old.disk) }
+        ensures err_kept { OnErr result (self.new.kept ≡ self.old.kept) }
+        ensures rose { IsErrOf result CacheFault.Disk → Rose (D.faults self.old.disk) (D.faults self.new.disk) }
+        ensures steady { OnOk result (D.faults self.new.disk ≡ D.faults self.old.disk) }
+        ensures never_falls { D.faults self.old.disk ≤ D.faults self.new.disk }
+    {
+        hold(&mut self.pages, page, copy)?;
+        match write_to(&mut self.disk, page, bytes) {
+            Ok(()) => {
+                trim(&mut self.pages, self.capacity);
+                Ok(())
+            }
+            Err(fault) => {
+                take_back(&mut self.pages);
+                Err(fault)
+            }
+        }
+    }
+
+    /// Makes the bytes the page: finds the memory, and then makes one write of the disk. The page
+    /// is then the one that was used last.
+    pub fn write(&mut self, page: u64, bytes: &[u8; 4_096]) -> Result<(), CacheFault>
+        ensures wrote { OnOk result (WrotePage (D.pages self.old.disk) page bytes.now (D.pages self.new.disk)) }
+        ensures kept { OnOk result (self.new.kept ≡ after_use self.old.capacity self.old.kept page bytes.now) }
+        ensures capacity { self.new.capacity ≡ self.old.capacity }
+        ensures err_pages { OnErr result (D.pages self.new.disk ≡ D.pages self.old.disk) }
+        ensures err_kept { OnErr result (self.new.kept ≡ self.old.kept) }
+        ensures rose { IsErrOf result CacheFault.Disk → Rose (D.faults self.old.disk) (D.faults self.new.disk) }
+        ensures steady { OnOk result (D.faults self.new.disk ≡ D.faults self.old.disk) }
+        ensures never_falls { D.faults self.old.disk ≤ D.faults self.new.disk }
+    {
+        let copy = Page::of(self.alloc, bytes)?;
+        if self.pages.contains(&page) {
+            self.write_held(page, bytes, copy)
+        } else {
+            self.write_new(page, bytes, copy)
+        }
+    }
+
+    /// How many pages are held.
+    pub fn len(&self) -> usize
+        ensures value { result ≡ length self.now.kept }
+        ensures within { result ≤ self.now.capacity }
+        ensures few { self.now.capacity ≤ 4096 }
+    {
+        let _capacity = self.capacity;
+        self.pages.len()
+    }
+
+    /// Gives the disk back.
+    pub fn into_disk(self) -> D
+        ensures { result ≡ self.disk }
+    {
+        let Cache {
+            alloc: _,
+            disk,
+            pages: _,
+            capacity: _,
+        } = self;
+        disk
+    }
+}
+
+#[cfg(test)]
+mod tests {
+    use super::*;
+    use dds_disk::memory_disk::MemoryDisk;
+    use dds_disk::zero_disk::ZeroDisk;
+    use std::test::Fail;
+
+    #[test]
+    fn a_failed_write_leaves_what_was_there(rt: HostRuntime) -> Result<(), Fail> {
+        let disk = MemoryDisk::new(rt.alloc(), &[1])?;
+        let mut cache = Cache::new(rt.alloc(), disk, 1)?;
+        assert_eq!(rt; cache.write(0, &[5; 4_096]), Ok(()));
+        assert_eq!(rt; cache.write(1, &[6; 4_096]), Err(CacheFault::Disk));
+        assert_eq!(rt; cache.read(0), Ok([5; 4_096]));
+        assert_eq!(rt; cache.write(1, &[6; 4_096]), Ok(()));
+        assert_eq!(rt; cache.len(), 1);
+        let mut disk = cache.into_disk();
+        assert_eq!(rt; disk.calls(), 3, "the read was of a page held");
+        for (page, byte) in [(0, 5), (1, 6), (2, 0)] {
+            let mut into = [9; 4_096];
+            assert_eq!(rt; disk.read(page, &mut into), Ok(()));
+            assert_eq!(rt; into, [byte; 4_096], "page {page}");
+        }
+        Ok(())
+    }
+
+    #[test]
+    fn the_page_used_longest_ago_leaves(rt: HostRuntime) -> Result<(), Fail> {
+        let mut disk = MemoryDisk::new(rt.alloc(), &[])?;
+        let mut cache = Cache::new(rt.alloc(), &mut disk, 2)?;
+        let reads = [
+            (0, 1),
+            (1, 2),
+            (0, 2),
+            (2, 3),
+            (0, 3),
+            (1, 4),
+            (1, 4),
+            (2, 5),
+            (1, 5),
+        ];
+        for (page, calls) in reads {
+            assert_eq!(rt; cache.read(page), Ok([0; 4_096]));
+            assert_eq!(rt; cache.disk.calls(), calls, "after a read of page {page}");
+        }
+        assert_eq!(rt; cache.write(3, &[3; 4_096]), Ok(()));
+        assert_eq!(rt; cache.read(1), Ok([0; 4_096]));
+        assert_eq!(rt; cache.read(3), Ok([3; 4_096]));
+        assert_eq!(rt; cache.disk.calls(), 6, "both pages are held");
+        Ok(())
+    }
+
+    #[test]
+    fn over_a_disk_that_forgets(rt: HostRuntime) -> Result<(), Fail> {
+        let disk = ZeroDisk::new(rt.alloc(), 0)?;
+        let mut cache = Cache::new(rt.alloc(), disk, 1)?;
+        assert_eq!(rt; cache.write(7, &[5; 4_096]), Ok(()));
+        assert_eq!(rt; cache.read(7), Ok([5; 4_096]), "it is held");
+        assert_eq!(rt; cache.read(8), Ok([0; 4_096]));
+        assert_eq!(rt; cache.read(7), Ok([0; 4_096]), "it left");
+        Ok(())
+    }
+}

@@ -1,0 +1,5 @@
+//! A cache of a disk's pages, which writes through.
+#![tactic(auto)]
+
+pub mod cache;
+mod recent;

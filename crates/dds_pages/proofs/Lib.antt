@@ -1,0 +1,5 @@
+pub mod Numbers
+pub mod RootPages
+pub mod PairPages
+pub mod Exact
+pub mod ExactPages

@@ -1,0 +1,4 @@
+pub mod Fields
+pub mod Root
+pub mod Overflow
+pub mod Bucket
