@@ -1,9 +1,13 @@
-use Rattle.std.specs.Prelude.{ℕ, Bool, ◌==◌, ◌%◌, ◌^◌, ◌<◌, min, IsTrue}
+use Rattle.std.specs.Prelude.{ℕ, Bool, ◌==◌, ◌&&◌, ◌%◌, ◌^◌, ◌<◌, min, IsTrue}
 
 -- a partition's name: the keys whose `depth` lowest bits are `bits`
 pub record Name : Type 0 where
   pub bits : ℕ
   pub depth : ℕ
+
+-- both names have the same bits and depth
+abbrev pub same_name : Name → Name → Bool
+same_name a b = a.bits == b.bits && a.depth == b.depth
 
 -- the key's lowest bits are the name's
 abbrev pub covers : Name → ℕ → Bool

@@ -9,7 +9,7 @@ use std::alloc::Global;
 use std::marker::Model;
 
 /// Says whether the call of this number is among those that are to fail.
-pub(crate) fn is_listed(number: u64, failing: &[u64]) -> bool
+pub fn is_listed(number: u64, failing: &[u64]) -> bool
     ensures { result ≡ is_listed number failing.now }
 {
     failing.contains(&number)

@@ -1,6 +1,7 @@
 //! Numbers of nodes, callers, calls, transactions and leaves, each kept in its range by its type.
 
 ghost use Rattle.std.specs.Prelude.{◌≡◌, ◌+◌, ◌<◌, ◌≤◌, ◌↔◌, IsTrue, nat_lt, if◌then◌else◌};
+ghost use Rattle.dds_base.specs.Number.{is_maker};
 
 use std::marker::Model;
 
@@ -35,6 +36,17 @@ impl Model for NodeNo {
 }
 
 impl NodeNo {
+    /// The node of this number; `None` where it is above 79.
+    pub fn of(number: u8) -> Option<NodeNo>
+        ensures { result ≡ (if nat_lt number 80 then Some number else None) }
+    {
+        if number < BRICKS + LIBRARIES {
+            Some(NodeNo { number })
+        } else {
+            None
+        }
+    }
+
     /// Brick `n`; `None` where `n` is above 63.
     pub fn brick(n: u8) -> Option<NodeNo>
         ensures { result ≡ (if nat_lt n 64 then Some n else None) }
@@ -193,6 +205,17 @@ impl Stamp {
         Stamp {
             maker: NO_MAKER,
             count,
+        }
+    }
+
+    /// A stamp of this maker; `None` where it is neither a node's number nor 255, the maker of an opening leaf.
+    pub fn of(maker: u8, count: u64) -> Option<Stamp>
+        ensures { result ≡ (if is_maker maker then Some record { maker = maker; count = count } else None) }
+    {
+        if maker < BRICKS + LIBRARIES || maker == NO_MAKER {
+            Some(Stamp { maker, count })
+        } else {
+            None
         }
     }
 

@@ -61,7 +61,7 @@ impl From<AllocError> for ReadEnd {
 }
 
 /// Gives a count of faults or of calls after one more. It stays at its last value, `u64::MAX`.
-pub(crate) fn one_more(count: u64) -> u64
+pub fn one_more(count: u64) -> u64
     ensures value { result ≡ one_more count }
     ensures rose { Rose count result }
     ensures never_falls { count ≤ result }

@@ -1,6 +1,6 @@
 //! A value of the table: at most 60,000 bytes.
 
-ghost use Rattle.std.specs.Prelude.{◌≡◌, ◌<◌, ◌≤◌, ◌↔◌, IsTrue, IfOk, length, nat_lt, if◌then◌else◌};
+ghost use Rattle.std.specs.Prelude.{◌≡◌, ◌<◌, ◌≤◌, ◌↔◌, IsTrue, IfOk, length, nat_le, nat_lt, if◌then◌else◌};
 ghost use Rattle.std.specs.declared.alloc.AllocError.{AllocError};
 ghost use Rattle.dds_base.specs.Value.{IsValueOf};
 
@@ -44,6 +44,17 @@ impl Value {
         match Vec::from_slice(alloc, bytes) {
             Ok(bytes) => Ok(Value { bytes }),
             Err(_) => Err(ValueFault::Memory),
+        }
+    }
+
+    /// The value of these bytes; `None` where there are more than 60,000. Takes no memory.
+    pub fn from_vec(bytes: Vec<u8>) -> Option<Value>
+        ensures { result ≡ (if nat_le (length bytes.items) 60000 then Some bytes.items else None) }
+    {
+        if bytes.len() > VALUE_BYTES {
+            None
+        } else {
+            Some(Value { bytes })
         }
     }
 

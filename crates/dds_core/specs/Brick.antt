@@ -1,7 +1,7 @@
 use Rattle.std.specs.Prelude.{ℕ, List, [], ◌∷◌, ◌++◌, Option, Some, None, position, slice_get}
 use Rattle.std.specs.List.{remove}
 use Rattle.std.specs.FinMap.{get}
-use Rattle.dds_base.specs.Number.{Txn}
+use Rattle.dds_base.specs.Number.{Txn, same_txn}
 use Rattle.dds_base.specs.Op.{the_key}
 use Rattle.dds_base.specs.declared.number.NodeNo.{NodeNo}
 use Rattle.dds_history.specs.Map.{after, flag_of}
@@ -10,9 +10,9 @@ use Rattle.dds_letters.specs.declared.letter.Answer.TheVariants.{Absent, Value}
 use Rattle.dds_letters.specs.declared.letter.Letter.{Letter}
 use Rattle.dds_letters.specs.declared.letter.Letter.TheVariants.{Get, Prepare, Commit, Got, Vote, Applied}
 use Rattle.dds_core.specs.declared.state.BrickState.{BrickState}
-use Rattle.dds_core.specs.declared.state.Pending.{Pending}
+use Rattle.dds_base.specs.declared.pending.Pending.{Pending}
 use Rattle.dds_core.specs.declared.turn.Point.TheVariants as point
-use Rattle.dds_core.specs.Turn.{BrickTurn, same_txn}
+use Rattle.dds_core.specs.Turn.{BrickTurn}
 
 -- a letter that does nothing here
 abbrev pub no_brick_turn : BrickState → BrickTurn

@@ -1,6 +1,6 @@
 use Rattle.std.specs.Prelude.{◌≡◌, ℕ, ◌+◌, Bool, List, [], ◌∷◌, ◌++◌, Option, Some, None, position, slice_get, slice_set, slice_index, min}
 use Rattle.std.specs.List.{remove}
-use Rattle.dds_base.specs.Number.{Txn}
+use Rattle.dds_base.specs.Number.{Txn, same_txn}
 use Rattle.dds_base.specs.declared.number.CallerNo.{CallerNo}
 use Rattle.dds_base.specs.declared.number.CallNo.{CallNo}
 use Rattle.dds_base.specs.declared.leaf.Leaf.{Leaf}
@@ -18,7 +18,7 @@ use Rattle.dds_core.specs.declared.state.OpenCall.{OpenCall}
 use Rattle.dds_core.specs.declared.state.Phase.{Phase}
 use Rattle.dds_core.specs.declared.state.Phase.TheVariants.{Getting, Preparing, Committing}
 use Rattle.dds_core.specs.declared.turn.CallReply.{CallReply}
-use Rattle.dds_core.specs.Turn.{LibraryTurn, same_txn}
+use Rattle.dds_core.specs.Turn.{LibraryTurn}
 
 -- a letter that does nothing here
 abbrev pub no_library_turn : LibraryState → LibraryTurn

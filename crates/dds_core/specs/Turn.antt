@@ -1,5 +1,4 @@
-use Rattle.std.specs.Prelude.{List, Bool, ◌==◌, ◌&&◌}
-use Rattle.dds_base.specs.Number.{Txn}
+use Rattle.std.specs.Prelude.{List}
 use Rattle.dds_base.specs.declared.number.NodeNo.{NodeNo}
 use Rattle.dds_letters.specs.declared.letter.Letter.{Letter}
 use Rattle.dds_core.specs.declared.state.BrickState.{BrickState}
@@ -18,7 +17,3 @@ pub record LibraryTurn : Type 0 where
   pub state : LibraryState
   pub letters : List (NodeNo × Letter)
   pub replies : List CallReply
-
--- two attempts are the same
-abbrev pub same_txn : Txn → Txn → Bool
-same_txn a b = a.library == b.library && a.number == b.number

@@ -3,10 +3,11 @@
 ghost use Rattle.std.specs.Prelude.{◌≡◌, ◌<◌, [], IfOk, IfSome, OnOk, length, option_copied};
 ghost use Rattle.dds_core.specs.Brick.{brick_turn, pending_place, get_turn, prepare_turn, commit_turn, answer_of};
 
-use crate::state::{BrickState, Pending};
+use crate::state::BrickState;
 use crate::turn::{CoreTurn, Point};
 use dds_base::memory::Memory;
 use dds_base::number::{NodeNo, TxnNo};
+use dds_base::pending::Pending;
 use dds_base::value::Value;
 use dds_letters::letter::{Answer, Letter};
 use std::alloc::Global;

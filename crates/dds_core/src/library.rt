@@ -11,9 +11,9 @@ use dds_base::leaf::Leaf;
 use dds_base::memory::Memory;
 use dds_base::number::{CallNo, CallerNo, NodeNo, TxnNo};
 use dds_base::op::{Op, Reply};
+use dds_base::update::Update;
 use dds_history::table::reply_with;
 use dds_letters::letter::{Answer, Letter};
-use dds_letters::update::Update;
 use std::alloc::Global;
 
 /// Opens a call and begins its attempt. After `Memory` nothing is said of the state.

@@ -1,22 +1,11 @@
 //! What a brick and a library keep.
 
-use dds_base::brick_list::BrickList;
 use dds_base::items::Items;
 use dds_base::leaf::Leaf;
 use dds_base::number::{CallNo, CallerNo, NodeNo, TxnNo};
 use dds_base::op::Op;
+use dds_base::pending::Pending;
 use dds_history::table::Table;
-use dds_letters::update::Update;
-
-/// An update that a brick has prepared and not yet applied. Its key is locked.
-#[derive(Drop)]
-pub struct Pending {
-    pub txn: TxnNo,
-    pub caller: CallerNo,
-    pub call: CallNo,
-    pub op: Update,
-    pub list: BrickList,
-}
 
 /// A brick: its pairs, and the pending transactions in the order of preparing.
 #[derive(Drop)]

@@ -5,8 +5,8 @@ ghost use Rattle.dds_base.specs.Outside.{Rose, one_more};
 ghost use Rattle.dds_disk.specs.Pages.{Pages, ReadPage, WrotePage};
 
 use crate::disk::{Disk, DiskError};
-use crate::memory_disk::one_more;
 use dds_base::memory::{Failed, Memory};
+use dds_base::source::one_more;
 use std::alloc::Global;
 use std::fs::OpenOptions;
 use std::io::{Read, Seek, SeekFrom, Write};

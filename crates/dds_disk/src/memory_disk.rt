@@ -9,24 +9,10 @@ ghost use Rattle.dds_disk.specs.Disks.{MemoryDiskState};
 use crate::disk::{Disk, DiskError};
 use crate::page_map::PageMap;
 use dds_base::memory::Memory;
+use dds_base::memory_source::is_listed;
+use dds_base::source::one_more;
 use std::alloc::Global;
 use std::marker::Model;
-
-/// Gives a count of faults or of calls after one more. It stays at its last value, `u64::MAX`.
-pub(crate) fn one_more(count: u64) -> u64
-    ensures value { result ≡ one_more count }
-    ensures rose { Rose count result }
-    ensures never_falls { count ≤ result }
-{
-    if count < u64::MAX { count + 1 } else { count }
-}
-
-/// Says whether the call of this number is among those that are to fail.
-fn is_listed(number: u64, failing: &[u64]) -> bool
-    ensures { result ≡ is_listed number failing.now }
-{
-    failing.contains(&number)
-}
 
 /// Keeps its pages in memory, and tells them. The calls, reads and writes together, are counted
 /// from 0, failed ones too, and the last number is kept from the call of number `2^64 - 1` on.

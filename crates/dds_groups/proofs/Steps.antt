@@ -3,13 +3,13 @@ use Rattle.std.proofs.Common.{◌≡◌, ℕ, ◌+◌, ◌-◌, ◌^◌, ◌<◌
 use Rattle.std.proofs.lemmas.Bool.Decides.{nat_tests}
 use Rattle.std.proofs.lemmas.List.{length_push, get_or_push}
 use Rattle.std.proofs.Math.Seq.{take-append_seam}
-use Rattle.dds_base.specs.Name.{Name}
+use Rattle.dds_base.specs.Name.{Name, same_name}
 use Rattle.dds_base.specs.Number.{StampOf}
 use Rattle.dds_base.specs.BrickList.{has}
 use Rattle.dds_base.specs.declared.leaf.Leaf.{Leaf}
 use Rattle.dds_groups.specs.declared.successor.Change.{Change}
 use Rattle.dds_groups.specs.declared.successor.Change.TheVariants.{Join, Split}
-use Rattle.dds_groups.specs.Names.{same_name, is_half, low_half, high_half}
+use Rattle.dds_groups.specs.Names.{is_half, low_half, high_half}
 use Rattle.dds_groups.proofs.NameHalves.{low-is-half, high-is-half, other-low, other-high}
 use Rattle.dds_groups.specs.Leaves.{same_stamp, follows, is_join, is_split, successor, is_some_of, is_joined_list, joined, low_child, high_child, sibling}
 

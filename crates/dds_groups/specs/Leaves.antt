@@ -1,10 +1,11 @@
 use Rattle.std.specs.Prelude.{ℕ, Bool, true, false, Option, Some, None, ◌==◌, ◌&&◌, ◌||◌, ◌+◌, ◌-◌, List, [], ◌∷◌, ◌++◌, length, take, slice_index, not, nat_lt, if◌then◌else◌}
+use Rattle.dds_base.specs.Name.{same_name}
 use Rattle.dds_base.specs.Number.{StampOf}
 use Rattle.dds_base.specs.BrickList.{has}
 use Rattle.dds_base.specs.declared.leaf.Leaf.{Leaf}
 use Rattle.dds_groups.specs.declared.successor.Change.{Change}
 use Rattle.dds_groups.specs.declared.successor.Change.TheVariants.{Join, Split}
-use Rattle.dds_groups.specs.Names.{same_name, low_half, high_half, is_half, other_half}
+use Rattle.dds_groups.specs.Names.{low_half, high_half, is_half, other_half}
 
 -- both stamps have the same maker and count
 abbrev pub same_stamp : StampOf → StampOf → Bool

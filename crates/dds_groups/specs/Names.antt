@@ -1,10 +1,6 @@
 use Rattle.std.specs.Prelude.{Bool, ◌==◌, ◌&&◌, ◌+◌, ◌-◌, ◌^◌, nat_lt, if◌then◌else◌}
 use Rattle.dds_base.specs.Name.{Name, covers}
 
--- both names have the same bits and depth
-abbrev pub same_name : Name → Name → Bool
-same_name a b = a.bits == b.bits && a.depth == b.depth
-
 -- the half of a name's keys whose next bit is 0
 abbrev pub low_half : Name → Name
 low_half n = record { bits = n.bits; depth = n.depth + 1 }

@@ -1,8 +1,9 @@
 use Rattle.std.specs.Prelude.{ℕ, Bool, ◌==◌, ◌&&◌, ◌||◌, not, nat_lt, is_some}
+use Rattle.dds_base.specs.Name.{same_name}
 use Rattle.dds_base.specs.Number.{StampOf}
 use Rattle.dds_base.specs.BrickList.{has}
 use Rattle.dds_base.specs.declared.leaf.Leaf.{Leaf}
-use Rattle.dds_groups.specs.Names.{same_name, is_half}
+use Rattle.dds_groups.specs.Names.{is_half}
 use Rattle.dds_groups.specs.Leaves.{same_stamp, newer, successor}
 
 -- the stamp's maker is a node, and it is known to have stopped

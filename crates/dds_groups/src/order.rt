@@ -1,7 +1,7 @@
 //! The order of leaves, and whether names and stamps are the same.
 
 ghost use Rattle.std.specs.Prelude.{◌≡◌};
-ghost use Rattle.dds_groups.specs.Names.{same_name};
+ghost use Rattle.dds_base.specs.Name.{same_name};
 ghost use Rattle.dds_groups.specs.Leaves.{same_stamp, newer};
 
 use dds_base::leaf::Leaf;

@@ -9,7 +9,7 @@ use crate::order::{newer, same_name, same_stamp};
 use crate::successor::{has, successor};
 use dds_base::leaf::Leaf;
 use dds_base::node_set::NodeSet;
-use dds_base::number::{BRICKS, NodeNo, Stamp};
+use dds_base::number::{NodeNo, Stamp};
 
 /// Whether brick `me` takes `leaf` in the place of `own`, its leaf of the same name or of the whole that the name is a
 /// half of. `free` says that no lease and no open join of `me` overlaps the name of `own`, and that none of its keys is
@@ -37,19 +37,8 @@ fn is_better_rival(known: &NodeSet, own: &Leaf, leaf: &Leaf) -> bool
 pub fn maker_known(known: &NodeSet, stamp: &Stamp) -> bool
     ensures { result ≡ maker_known (has_node known.now) stamp.now }
 {
-    match node(stamp.maker()) {
+    match NodeNo::of(stamp.maker()) {
         Some(maker) => known.has(maker),
         None => false,
-    }
-}
-
-/// The node of this number; `None` where it is above 79.
-fn node(number: u8) -> Option<NodeNo>
-    ensures { result ≡ (if nat_lt number 80 then Some number else None) }
-{
-    if number < BRICKS {
-        NodeNo::brick(number)
-    } else {
-        NodeNo::library(number - BRICKS)
     }
 }

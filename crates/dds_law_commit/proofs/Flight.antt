@@ -12,7 +12,7 @@ use Rattle.dds_letters.specs.declared.letter.Letter.{Letter}
 use Rattle.dds_letters.specs.declared.letter.Letter.TheVariants.{Got, Vote, Commit, Applied}
 use Rattle.dds_core.specs.declared.state.LibraryState.{LibraryState}
 use Rattle.dds_core.specs.declared.state.OpenCall.{OpenCall}
-use Rattle.dds_core.specs.declared.state.Pending.{Pending}
+use Rattle.dds_base.specs.declared.pending.Pending.{Pending}
 use Rattle.dds_core.specs.declared.state.Phase.TheVariants.{Committing}
 use Rattle.dds_core.specs.Brick.{answer_of}
 use Rattle.dds_core.specs.Library.{opened, first_letter}

@@ -10,8 +10,8 @@ use Rattle.dds_history.proofs.Histories.{legal_from-push}
 use Rattle.std.specs.FinMap.{empty}
 use Rattle.std.specs.Prelude.{Option, Some, None}
 use Rattle.std.specs.FinMap.{get}
+use Rattle.dds_base.specs.Number.{same_txn}
 use Rattle.dds_history.specs.Map.{found as found_reply, reply_to}
-use Rattle.dds_core.specs.Turn.{same_txn}
 use Rattle.dds_core.specs.Brick.{answer_of}
 use Rattle.dds_core.specs.Library.{reply_of}
 use Rattle.dds_world.specs.World.{World}

@@ -5,14 +5,13 @@ use Rattle.std.specs.List.{AllByRecursion}
 use Rattle.std.proofs.lemmas.Bool.Decides.{nat_tests}
 use Rattle.std.proofs.lemmas.List.{map-append}
 use Rattle.std.proofs.lemmas.List.Elements.{filter-append}
-use Rattle.dds_base.specs.Number.{Txn}
+use Rattle.dds_base.specs.Number.{Txn, same_txn}
 use Rattle.dds_base.specs.Op.{is_get}
 use Rattle.dds_base.specs.declared.number.CallNo.{CallNo}
 use Rattle.dds_base.specs.declared.op.Reply.{Reply}
 use Rattle.dds_base.specs.declared.op.Reply.TheVariants as reply
 use Rattle.dds_history.specs.History.{IsLegal}
 use Rattle.dds_history.proofs.Histories.{legal_from-push}
-use Rattle.dds_core.specs.Turn.{same_txn}
 use Rattle.dds_world.specs.Trace.{Trace, Asked, Made, Told}
 use Rattle.dds_world.specs.Stands.{Stands, CallOf, answers, answer_to, is_answer, stands_in, placed_history, calls, HasOneEntry, ResultHasOneEntry, AnsweredOnce, RefusalHasNone, RefusedNever, LostHasAtMostOne, UnansweredOnceOrNever, AtMostOneAfter, IsOfACall}
 use Rattle.dds_law_commit.proofs.Lists.{all-weaker, all-both, all-map, any-none}

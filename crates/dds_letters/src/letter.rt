@@ -3,11 +3,12 @@
 ghost use Rattle.std.specs.Prelude.{◌≡◌, IfOk};
 ghost use Rattle.dds_letters.specs.Letter.{call_of};
 
-use crate::update::Update;
+
 use dds_base::brick_list::BrickList;
 use dds_base::memory::Memory;
 use dds_base::name::LeafName;
 use dds_base::number::{CallNo, CallerNo, Stamp, TxnNo};
+use dds_base::update::Update;
 use dds_base::value::Value;
 
 /// What a get found.

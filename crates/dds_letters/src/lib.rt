@@ -3,4 +3,3 @@
 
 pub mod letter;
 pub mod outbox;
-pub mod update;

@@ -6,11 +6,10 @@ use Rattle.std.specs.List.{find}
 use Rattle.std.specs.Ordering.{nat_cmp}
 use Rattle.std.specs.BTreeMap.{BTreeMap, is_at}
 use Rattle.std.specs.BTreeMap as tree
-use Rattle.dds_base.specs.Number.{Txn}
+use Rattle.dds_base.specs.Number.{Txn, same_txn}
 use Rattle.dds_base.specs.Op.{the_key}
 use Rattle.dds_locks.specs.First.{without_first}
-use Rattle.dds_locks.specs.declared.pending.Pending.{Pending}
-use Rattle.dds_locks.specs.Outcomes.{same_txn}
+use Rattle.dds_base.specs.declared.pending.Pending.{Pending}
 use Rattle.dds_locks.specs.Pending.{holder, IsApart, times, is_numbered, count_at, IsIndexed}
 
 -- a key that isn't the first one's is free in a list only where it is free in the rest

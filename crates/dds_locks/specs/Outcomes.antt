@@ -8,10 +8,6 @@ use Rattle.dds_base.specs.Number.{Txn}
 abbrev pub txn_cmp : Txn → Txn → Ordering
 txn_cmp a b = ordering_then (nat_cmp a.library b.library) (nat_cmp a.number b.number)
 
--- both are the same attempt
-abbrev pub same_txn : Txn → Txn → Bool
-same_txn a b = a.library == b.library && a.number == b.number
-
 -- the outcome noted last of each transaction that one was noted of: true for committed, false for aborted
 abbrev pub OutcomeMap : Type 0
 OutcomeMap = FinMap txn_cmp Bool

@@ -3,12 +3,12 @@ use Rattle.std.specs.List.{find, list_any}
 use Rattle.std.specs.Ordering.{nat_cmp}
 use Rattle.std.specs.BTreeMap.{BTreeMap}
 use Rattle.std.specs.BTreeMap as tree
-use Rattle.dds_base.specs.Number.{Txn}
+use Rattle.dds_base.specs.Number.{Txn, same_txn}
 use Rattle.dds_base.specs.Name.{Name, covers}
 use Rattle.dds_base.specs.Op.{the_key}
-use Rattle.dds_locks.specs.declared.pending.Pending.{Pending}
+use Rattle.dds_base.specs.declared.pending.Pending.{Pending}
 use Rattle.dds_locks.specs.First.{without_first}
-use Rattle.dds_locks.specs.Outcomes.{same_txn, txn_cmp}
+use Rattle.dds_locks.specs.Outcomes.{txn_cmp}
 
 -- the transaction that has the key locked: the first pending one on it
 abbrev pub holder : List Pending → ℕ → Option Txn

@@ -2,9 +2,9 @@ use Rattle.std.specs.Prelude.{List, refl}
 use Rattle.std.specs.Coded.{Coded, code_by, coded×, coded_list, coded_bool}
 use Rattle.std.specs.FinMap as map
 use Rattle.dds_base.specs.contracts.number.TxnNo as txn
-use Rattle.dds_locks.specs.contracts.pending.Pending as pending
+use Rattle.dds_base.specs.contracts.pending.Pending as pending
 use Rattle.dds_locks.specs.contracts.leases.Lease as lease
-use Rattle.dds_locks.specs.declared.pending.Pending.{Pending}
+use Rattle.dds_base.specs.declared.pending.Pending.{Pending}
 use Rattle.dds_locks.specs.declared.leases.Lease.{Lease}
 use Rattle.dds_locks.specs.Outcomes.{OutcomeMap}
 

@@ -10,11 +10,12 @@ ghost use Rattle.dds_locks.specs.Status.{noted_status, status};
 
 use crate::leases::{Lease, lease_of, leased, release, release_all};
 use crate::outcomes::Outcomes;
-use crate::pending::{Pending, PendingSet};
+use crate::pending::PendingSet;
 use dds_base::items::Items;
 use dds_base::memory::Memory;
 use dds_base::name::LeafName;
 use dds_base::number::{NodeNo, TxnNo};
+use dds_base::pending::Pending;
 use std::alloc::Global;
 use std::marker::Model;
 

@@ -1,30 +1,18 @@
 //! The pending transactions of a brick, in the order of preparing. Each locks its key.
 
 ghost use Rattle.std.specs.Prelude.{◌≡◌, ℕ, ◌+◌, ◌-◌, ◌<◌, ◌++◌, [], ◌∷◌, OnOk, OnErr, IfSome, None, position, slice_get, option_copied, length, nat_lt, if◌then◌else◌};
-ghost use Rattle.dds_base.specs.Number.{Txn};
+ghost use Rattle.dds_base.specs.Number.{Txn, same_txn};
 ghost use Rattle.dds_base.specs.Op.{the_key};
-ghost use Rattle.dds_locks.specs.Outcomes.{same_txn};
 ghost use Rattle.dds_locks.specs.Pending.{holder, first_of, without, any_under, times, count_at, is_numbered};
 
-use dds_base::brick_list::BrickList;
 use dds_base::items::Items;
 use dds_base::memory::Memory;
 use dds_base::name::LeafName;
-use dds_base::number::{CallNo, CallerNo, TxnNo};
-use dds_base::op::Op;
+use dds_base::number::TxnNo;
+use dds_base::pending::Pending;
 use std::alloc::Global;
 use std::collections::BTreeMap;
 use std::marker::Model;
-
-/// An update that a brick has prepared, with the members that prepare it.
-#[derive(Debug, Drop)]
-pub struct Pending {
-    pub txn: TxnNo,
-    pub caller: CallerNo,
-    pub call: CallNo,
-    pub op: Op,
-    pub list: BrickList,
-}
 
 /// The pending transactions with an index of their keys and one of their numbers. Contracts see the list.
 #[derive(Drop)]
@@ -36,7 +24,7 @@ pub struct PendingSet {
 
 impl Model for PendingSet {
     ghost use Rattle.std.specs.Prelude.{List};
-    ghost use Rattle.dds_locks.specs.declared.pending.Pending.{Pending};
+    ghost use Rattle.dds_base.specs.declared.pending.Pending.{Pending};
     ghost use Rattle.dds_locks.specs.Pending.{IsIndexed};
 
     ghost Value = { List Pending };

@@ -4,12 +4,13 @@ ghost use Rattle.std.specs.Prelude.{◌≡◌};
 ghost use Rattle.dds_base.specs.Op.{the_key};
 
 use crate::locks::{Locks, TxnStatus};
-use crate::pending::Pending;
 use dds_base::brick_list::BrickList;
 use dds_base::memory::Memory;
 use dds_base::name::LeafName;
 use dds_base::number::{CallNo, CallerNo, NodeNo, TxnNo};
 use dds_base::op::Op;
+use dds_base::pending::Pending;
+use dds_base::update::Update;
 use std::alloc::Global;
 use std::process::Abort;
 use std::test::Fail;
@@ -33,7 +34,7 @@ fn pending(rt: &impl Abort, txn: TxnNo, key: u64) -> Pending
         txn,
         caller: CallerNo::of(3).expect(rt, "a caller"),
         call: CallNo(7),
-        op: Op::Remove { key },
+        op: Update::of(Op::Remove { key }).expect(rt, "an update"),
         list: BrickList::of(&[0, 1]).expect(rt, "a list"),
     }
 }

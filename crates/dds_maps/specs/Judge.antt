@@ -1,8 +1,7 @@
 use Rattle.std.specs.Prelude.{◌&&◌, List, [], ◌∷◌, Option, Some, None, if◌then◌else◌}
-use Rattle.dds_base.specs.Name.{Name}
+use Rattle.dds_base.specs.Name.{Name, same_name}
 use Rattle.dds_base.specs.Number.{StampOf}
 use Rattle.dds_base.specs.declared.leaf.Leaf.{Leaf}
-use Rattle.dds_groups.specs.Names.{same_name}
 use Rattle.dds_groups.specs.Leaves.{same_stamp, newer}
 use Rattle.dds_trie.specs.Trie.{LeafMap, put}
 use Rattle.dds_maps.specs.declared.maps.Standing.{Standing}

@@ -1,6 +1,6 @@
 use Rattle.std.specs.Prelude.{ℕ, ◌+◌, ◌%◌, ◌<◌, ◌≤◌, ◌≡◌, ◌≢◌, ◌⊎◌, Bool, true, false, not, ◌&&◌, ◌||◌, ◌==◌, List, [], ◌∷◌, Option, Some, None, length, map, filter, IsTrue}
 use Rattle.std.specs.List.{list_any, AllByRecursion}
-use Rattle.dds_base.specs.Number.{Txn}
+use Rattle.dds_base.specs.Number.{Txn, same_txn}
 use Rattle.dds_base.specs.Op.{is_get}
 use Rattle.dds_base.specs.declared.number.CallNo.{CallNo}
 use Rattle.dds_base.specs.declared.op.Op.{Op}
@@ -8,7 +8,6 @@ use Rattle.dds_base.specs.declared.op.Reply.{Reply}
 use Rattle.dds_base.specs.declared.op.Reply.TheVariants as reply
 use Rattle.dds_history.specs.History.{IsLegal}
 use Rattle.dds_history.specs.declared.entry.Entry.{Entry}
-use Rattle.dds_core.specs.Turn.{same_txn}
 use Rattle.dds_script.specs.declared.opening.Opening.{Opening}
 use Rattle.dds_world.specs.World.{World, outbox, link, opening_world}
 use Rattle.dds_world.specs.Trace.{Trace, Asked, Made, Told, next, start, trace_from}

@@ -1,6 +1,6 @@
 use Rattle.std.specs.Prelude.{ℕ, ◌+◌, ◌-◌, Bool, true, false, not, ◌&&◌, List, [], ◌∷◌, ◌++◌, Option, Some, None, slice_get}
 use Rattle.std.specs.List.{list_any}
-use Rattle.dds_base.specs.Number.{Txn}
+use Rattle.dds_base.specs.Number.{Txn, same_txn}
 use Rattle.dds_base.specs.Op.{is_get}
 use Rattle.dds_base.specs.declared.number.CallNo.{CallNo}
 use Rattle.dds_base.specs.declared.op.Op.{Op}
@@ -12,7 +12,6 @@ use Rattle.dds_core.specs.declared.state.OpenCall.{OpenCall}
 use Rattle.dds_core.specs.declared.turn.Point.{Point}
 use Rattle.dds_core.specs.declared.turn.Point.TheVariants.{Read, Applied}
 use Rattle.dds_core.specs.declared.turn.CallReply.{CallReply}
-use Rattle.dds_core.specs.Turn.{same_txn}
 use Rattle.dds_world.specs.World.{World}
 use Rattle.dds_world.specs.Turn.{WorldTurn, turn}
 use Rattle.dds_world.specs.declared.step.Input.{Input}

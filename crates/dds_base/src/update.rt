@@ -1,10 +1,10 @@
 //! An operation that changes the map.
 
 ghost use Rattle.std.specs.Prelude.{◌≡◌, false, Some, None, IfOk, if◌then◌else◌};
-ghost use Rattle.dds_base.specs.Op.{is_get};
+ghost use Rattle.dds_base.specs.Op.{is_get, the_key};
 
-use dds_base::memory::Memory;
-use dds_base::op::Op;
+use crate::memory::Memory;
+use crate::op::Op;
 use std::marker::Model;
 
 /// An operation that is no get. Contracts see the operation.
@@ -42,6 +42,12 @@ impl Update {
         ensures update { is_get result.now ≡ false }
     {
         &self.op
+    }
+
+    pub fn key(&self) -> u64
+        ensures { result ≡ the_key self.now }
+    {
+        self.op.key()
     }
 
     pub fn copy(&self) -> Result<Update, Memory>

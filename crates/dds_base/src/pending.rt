@@ -1,0 +1,16 @@
+//! A transaction that a brick has prepared.
+
+use crate::brick_list::BrickList;
+use crate::number::{CallNo, CallerNo, TxnNo};
+use crate::update::Update;
+
+/// An update that a brick has prepared and neither applied nor aborted, with the members that prepare it. Its key is
+/// locked.
+#[derive(Debug, Drop)]
+pub struct Pending {
+    pub txn: TxnNo,
+    pub caller: CallerNo,
+    pub call: CallNo,
+    pub op: Update,
+    pub list: BrickList,
+}
