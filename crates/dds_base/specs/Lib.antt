@@ -6,3 +6,4 @@ pub mod BrickList
 pub mod Value
 pub mod Op
 pub mod Outside
+pub mod Place

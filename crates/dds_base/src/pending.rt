@@ -1,4 +1,4 @@
-//! A transaction that a brick has prepared.
+//! A transaction that a brick has prepared, and what a brick says of a transaction.
 
 use crate::brick_list::BrickList;
 use crate::number::{CallNo, CallerNo, TxnNo};
@@ -13,4 +13,13 @@ pub struct Pending {
     pub call: CallNo,
     pub op: Update,
     pub list: BrickList,
+}
+
+/// A brick's status of a transaction.
+#[derive(Clone, Copy, PartialEq, Eq, Debug)]
+pub enum TxnStatus {
+    NotPrepared,
+    Prepared,
+    Committed,
+    Aborted,
 }

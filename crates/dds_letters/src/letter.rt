@@ -1,27 +1,32 @@
-//! The letters of gets and two-phase commits.
+//! The letters between nodes.
 
 ghost use Rattle.std.specs.Prelude.{◌≡◌, IfOk};
 ghost use Rattle.dds_letters.specs.Letter.{call_of};
 
-
+use crate::copied_pairs::CopiedPairs;
+use crate::refusal::{Answer, Ballot, Refusal, Wanted};
 use dds_base::brick_list::BrickList;
+use dds_base::leaf::Leaf;
 use dds_base::memory::Memory;
 use dds_base::name::LeafName;
 use dds_base::number::{CallNo, CallerNo, Stamp, TxnNo};
+use dds_base::pending::TxnStatus;
 use dds_base::update::Update;
-use dds_base::value::Value;
+use std::alloc::Global;
 
-/// What a get found.
-#[derive(Debug, Drop)]
-pub enum Answer {
-    Absent,
-    Value(Value),
-}
-
-/// A letter from one node to another. `txn` is the attempt that it belongs to. A library sends `Get`, `Prepare` and
-/// `Commit` to bricks; a brick answers them by `Got`, `Vote` (yes: it has prepared) and `Applied`, whose flag says of a
-/// swap that the key was bound to the expected bytes, and else that the key was there. `name` and `stamp` are of the
-/// leaf that the library used, `list` the members that it asks, and `below` the least of its open attempts' numbers.
+/// A letter from one node to another. `txn` is the attempt of a call, or its transaction; `order` is the number that the
+/// ordering brick gave an order.
+///
+/// A library sends `Get`, `Prepare`, `Commit`, `Abort`, `Push` and `MapAsk` to bricks, which answer by `Got`, `Vote`,
+/// `Applied`, `Aborted` and `MapTell`. `name` and `stamp` are of the leaf that the library used, `list` the members
+/// that it asks, and `below` the least of its open attempts' numbers, below which bricks may forget outcomes. The flag
+/// of `Applied` says of a swap that the key was bound to the expected bytes, and else that it was there.
+///
+/// Bricks resolve a transaction whose library stopped by `Help`, `Query`, `Status` and `Outcome`. A brick carries out
+/// an order to join or to split by `Lease`, `Release`, `CopyAsk` and `Install`, answered by `Granted` or
+/// `LeaseRefused`, `CopyPart` and `Installed`. `after` is the last key that was copied.
+///
+/// `Notice` is the last letter of a node that stopped.
 #[derive(Debug, Drop)]
 pub enum Letter {
     Get {
@@ -45,32 +50,92 @@ pub enum Letter {
     Commit {
         txn: TxnNo,
     },
+    Abort {
+        txn: TxnNo,
+    },
+    Push {
+        leaf: Leaf,
+    },
+    MapAsk {
+        txn: TxnNo,
+        caller: CallerNo,
+        call: CallNo,
+        key: u64,
+    },
     Got {
         txn: TxnNo,
         answer: Answer,
     },
     Vote {
         txn: TxnNo,
+        vote: Ballot,
     },
     Applied {
         txn: TxnNo,
         was: bool,
     },
-}
-
-impl Answer {
-    pub fn copy(&self) -> Result<Answer, Memory>
-        ensures { IfOk result (λ answer. answer ≡ self.now) }
-    {
-        Ok(match self {
-            Answer::Absent => Answer::Absent,
-            Answer::Value(value) => Answer::Value(value.copy()?),
-        })
-    }
+    Aborted {
+        txn: TxnNo,
+    },
+    MapTell {
+        txn: TxnNo,
+        leaf: Option<Leaf>,
+    },
+    Help {
+        txn: TxnNo,
+        list: BrickList,
+    },
+    Query {
+        txn: TxnNo,
+        list: BrickList,
+    },
+    Status {
+        txn: TxnNo,
+        status: TxnStatus,
+    },
+    Outcome {
+        txn: TxnNo,
+        commit: bool,
+    },
+    Lease {
+        order: u64,
+        what: Wanted,
+    },
+    Granted {
+        order: u64,
+        leaf: Leaf,
+    },
+    LeaseRefused {
+        order: u64,
+        refusal: Refusal,
+    },
+    Release {
+        order: u64,
+        name: LeafName,
+    },
+    CopyAsk {
+        order: u64,
+        name: LeafName,
+        after: Option<u64>,
+    },
+    CopyPart {
+        order: u64,
+        last: bool,
+        pairs: CopiedPairs,
+    },
+    Install {
+        order: u64,
+        leaf: Leaf,
+    },
+    Installed {
+        order: u64,
+        name: LeafName,
+    },
+    Notice,
 }
 
 impl Letter {
-    pub fn copy(&self) -> Result<Letter, Memory>
+    pub fn copy(&self, alloc: Global) -> Result<Letter, Memory>
         ensures { IfOk result (λ letter. letter ≡ self.now) }
     {
         Ok(match self {
@@ -109,19 +174,91 @@ impl Letter {
                 op: op.copy()?,
             },
             Letter::Commit { txn } => Letter::Commit { txn: *txn },
+            Letter::Abort { txn } => Letter::Abort { txn: *txn },
+            Letter::Push { leaf } => Letter::Push { leaf: *leaf },
+            Letter::MapAsk {
+                txn,
+                caller,
+                call,
+                key,
+            } => Letter::MapAsk {
+                txn: *txn,
+                caller: *caller,
+                call: *call,
+                key: *key,
+            },
             Letter::Got { txn, answer } => Letter::Got {
                 txn: *txn,
                 answer: answer.copy()?,
             },
-            Letter::Vote { txn } => Letter::Vote { txn: *txn },
+            Letter::Vote { txn, vote } => Letter::Vote {
+                txn: *txn,
+                vote: *vote,
+            },
             Letter::Applied { txn, was } => Letter::Applied {
                 txn: *txn,
                 was: *was,
             },
+            Letter::Aborted { txn } => Letter::Aborted { txn: *txn },
+            Letter::MapTell { txn, leaf } => Letter::MapTell {
+                txn: *txn,
+                leaf: *leaf,
+            },
+            Letter::Help { txn, list } => Letter::Help {
+                txn: *txn,
+                list: *list,
+            },
+            Letter::Query { txn, list } => Letter::Query {
+                txn: *txn,
+                list: *list,
+            },
+            Letter::Status { txn, status } => Letter::Status {
+                txn: *txn,
+                status: *status,
+            },
+            Letter::Outcome { txn, commit } => Letter::Outcome {
+                txn: *txn,
+                commit: *commit,
+            },
+            Letter::Lease { order, what } => Letter::Lease {
+                order: *order,
+                what: *what,
+            },
+            Letter::Granted { order, leaf } => Letter::Granted {
+                order: *order,
+                leaf: *leaf,
+            },
+            Letter::LeaseRefused { order, refusal } => Letter::LeaseRefused {
+                order: *order,
+                refusal: *refusal,
+            },
+            Letter::Release { order, name } => Letter::Release {
+                order: *order,
+                name: *name,
+            },
+            Letter::CopyAsk { order, name, after } => Letter::CopyAsk {
+                order: *order,
+                name: *name,
+                after: *after,
+            },
+            Letter::CopyPart { order, last, pairs } => Letter::CopyPart {
+                order: *order,
+                last: *last,
+                pairs: pairs.copy(alloc)?,
+            },
+            Letter::Install { order, leaf } => Letter::Install {
+                order: *order,
+                leaf: *leaf,
+            },
+            Letter::Installed { order, name } => Letter::Installed {
+                order: *order,
+                name: *name,
+            },
+            Letter::Notice => Letter::Notice,
         })
     }
 
-    /// The call that a letter asks for: of `Get` and `Prepare` alone.
+    /// The call that a letter asks for: of `Get`, `Prepare` and `MapAsk` alone.
     pub fn call_of(&self) -> Option<(CallerNo, CallNo)>
         ensures { result ≡ call_of self.now }
     {
@@ -143,7 +280,13 @@ impl Letter {
                 stamp: _,
                 list: _,
                 op: _,
-            } => { Some((*caller, *call)) }
+            } => Some((*caller, *call)),
+            Letter::MapAsk {
+                txn: _,
+                caller,
+                call,
+                key: _,
+            } => Some((*caller, *call)),
             _ => None,
         }
     }

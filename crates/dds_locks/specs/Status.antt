@@ -1,8 +1,8 @@
 use Rattle.std.specs.Prelude.{Bool, true, false, Option, Some, None, nat_lt, if◌then◌else◌}
 use Rattle.std.specs.FinMap.{get}
 use Rattle.dds_base.specs.Number.{Txn}
-use Rattle.dds_locks.specs.declared.locks.TxnStatus.{TxnStatus}
-use Rattle.dds_locks.specs.declared.locks.TxnStatus.TheVariants.{NotPrepared, Prepared, Committed, Aborted}
+use Rattle.dds_base.specs.declared.pending.TxnStatus.{TxnStatus}
+use Rattle.dds_base.specs.declared.pending.TxnStatus.TheVariants.{NotPrepared, Prepared, Committed, Aborted}
 use Rattle.dds_locks.specs.Pending.{times}
 use Rattle.dds_locks.specs.State.{LockState}
 

@@ -15,18 +15,9 @@ use dds_base::items::Items;
 use dds_base::memory::Memory;
 use dds_base::name::LeafName;
 use dds_base::number::{NodeNo, TxnNo};
-use dds_base::pending::Pending;
+use dds_base::pending::{Pending, TxnStatus};
 use std::alloc::Global;
 use std::marker::Model;
-
-/// How far a transaction is at a brick.
-#[derive(Clone, Copy, PartialEq, Eq, Debug)]
-pub enum TxnStatus {
-    NotPrepared,
-    Prepared,
-    Committed,
-    Aborted,
-}
 
 /// Pending transactions, which lock their keys; write leases; and the outcomes of transactions. Contracts see the
 /// pending ones and the leases as lists, in the order of preparing and of giving, and the outcomes as a finite map.

@@ -3,13 +3,13 @@
 ghost use Rattle.std.specs.Prelude.{◌≡◌};
 ghost use Rattle.dds_base.specs.Op.{the_key};
 
-use crate::locks::{Locks, TxnStatus};
+use crate::locks::Locks;
 use dds_base::brick_list::BrickList;
 use dds_base::memory::Memory;
 use dds_base::name::LeafName;
 use dds_base::number::{CallNo, CallerNo, NodeNo, TxnNo};
 use dds_base::op::Op;
-use dds_base::pending::Pending;
+use dds_base::pending::{Pending, TxnStatus};
 use dds_base::update::Update;
 use std::alloc::Global;
 use std::process::Abort;
