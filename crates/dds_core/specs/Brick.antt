@@ -5,8 +5,9 @@ use Rattle.dds_base.specs.Number.{Txn, same_txn}
 use Rattle.dds_base.specs.Op.{the_key}
 use Rattle.dds_base.specs.declared.number.NodeNo.{NodeNo}
 use Rattle.dds_history.specs.Map.{after, flag_of}
-use Rattle.dds_letters.specs.declared.letter.Answer.{Answer}
-use Rattle.dds_letters.specs.declared.letter.Answer.TheVariants.{Absent, Value}
+use Rattle.dds_letters.specs.declared.refusal.Answer.{Answer}
+use Rattle.dds_letters.specs.declared.refusal.Answer.TheVariants.{Absent, Value}
+use Rattle.dds_letters.specs.declared.refusal.Ballot.TheVariants.{Yes}
 use Rattle.dds_letters.specs.declared.letter.Letter.{Letter}
 use Rattle.dds_letters.specs.declared.letter.Letter.TheVariants.{Get, Prepare, Commit, Got, Vote, Applied}
 use Rattle.dds_core.specs.declared.state.BrickState.{BrickState}
@@ -31,7 +32,7 @@ get_turn s from txn key =
 -- Prepare: keeps the update as pending, which locks its key, and votes yes
 abbrev pub prepare_turn : BrickState → NodeNo → Pending → BrickTurn
 prepare_turn s from p =
-    record { state = record s { pending = s.pending ++ p ∷ [] }; letters = (from, Vote p.txn) ∷ []; points = [] }
+    record { state = record s { pending = s.pending ++ p ∷ [] }; letters = (from, Vote p.txn Yes) ∷ []; points = [] }
 
 -- the place of the first pending transaction of this number
 abbrev pub pending_place : List Pending → Txn → Option ℕ
@@ -57,6 +58,4 @@ brick_turn s from (Get txn caller call key name stamp) = get_turn s from txn key
 brick_turn s from (Prepare txn caller call below name stamp list op) =
     prepare_turn s from record { txn = txn; caller = caller; call = call; op = op; list = list }
 brick_turn s from (Commit txn) = commit_turn s from (pending_place s.pending txn)
-brick_turn s from (Got txn answer) = no_brick_turn s
-brick_turn s from (Vote txn) = no_brick_turn s
-brick_turn s from (Applied txn was) = no_brick_turn s
+brick_turn s from letter = no_brick_turn s

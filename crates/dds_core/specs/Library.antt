@@ -9,8 +9,10 @@ use Rattle.dds_base.specs.declared.op.Op.TheVariants as op
 use Rattle.dds_base.specs.declared.op.Reply.{Reply}
 use Rattle.dds_base.specs.declared.op.Reply.TheVariants as reply
 use Rattle.dds_history.specs.Map.{reply_with}
-use Rattle.dds_letters.specs.declared.letter.Answer.{Answer}
-use Rattle.dds_letters.specs.declared.letter.Answer.TheVariants as answer
+use Rattle.dds_letters.specs.declared.refusal.Answer.{Answer}
+use Rattle.dds_letters.specs.declared.refusal.Answer.TheVariants as answer
+use Rattle.dds_letters.specs.declared.refusal.Ballot.{Ballot}
+use Rattle.dds_letters.specs.declared.refusal.Ballot.TheVariants.{Yes, No}
 use Rattle.dds_letters.specs.declared.letter.Letter.{Letter}
 use Rattle.dds_letters.specs.declared.letter.Letter.TheVariants.{Get, Prepare, Commit, Got, Vote, Applied}
 use Rattle.dds_core.specs.declared.state.LibraryState.{LibraryState}
@@ -69,14 +71,19 @@ abbrev pub answered : LibraryState → ℕ → OpenCall → Reply → LibraryTur
 answered s place c reply =
     record { state = record s { calls = remove s.calls place }; letters = []; replies = record { txn = c.txn; caller = c.caller; call = c.call; reply = reply } ∷ [] }
 
--- the reply of a get
-abbrev pub reply_of : Answer → Reply
-reply_of answer.Absent = reply.Absent
-reply_of (answer.Value value) = reply.Value value
+-- the reply of a get; a refusal is none
+abbrev pub reply_of : Answer → Option Reply
+reply_of answer.Absent = Some reply.Absent
+reply_of (answer.Value value) = Some (reply.Value value)
+reply_of (answer.Refused refusal) = None
+
+abbrev pub answered_if : LibraryState → ℕ → OpenCall → Option Reply → LibraryTurn
+answered_if s place c None = no_library_turn s
+answered_if s place c (Some reply) = answered s place c reply
 
 -- Got, while the call is getting: the answer is the reply
 abbrev pub got_in : LibraryState → ℕ → OpenCall → Answer → Phase → LibraryTurn
-got_in s place c a (Getting brick) = answered s place c (reply_of a)
+got_in s place c a (Getting brick) = answered_if s place c (reply_of a)
 got_in s place c a (Preparing brick) = no_library_turn s
 got_in s place c a (Committing brick) = no_library_turn s
 
@@ -102,16 +109,24 @@ abbrev pub at_place : LibraryState → (ℕ → OpenCall → LibraryTurn) → Op
 at_place s row None = no_library_turn s
 at_place s row (Some place) = at_call s row place (slice_get s.calls place)
 
+-- a vote: no such brick votes no
+abbrev pub ballot_in : LibraryState → Ballot → Txn → LibraryTurn
+ballot_in s Yes txn = at_place s (λ place c. vote_in s place c c.phase) (call_place s.calls txn)
+ballot_in s (No denial) txn = no_library_turn s
+
 -- what a letter does at a library
 abbrev pub library_turn : LibraryState → Letter → LibraryTurn
-library_turn s (Get txn caller call key name stamp) = no_library_turn s
-library_turn s (Prepare txn caller call below name stamp list op) = no_library_turn s
-library_turn s (Commit txn) = no_library_turn s
 library_turn s (Got txn a) = at_place s (λ place c. got_in s place c a c.phase) (call_place s.calls txn)
-library_turn s (Vote txn) = at_place s (λ place c. vote_in s place c c.phase) (call_place s.calls txn)
+library_turn s (Vote txn vote) = ballot_in s vote txn
 library_turn s (Applied txn was) = at_place s (λ place c. applied_in s place c was c.phase) (call_place s.calls txn)
+library_turn s letter = no_library_turn s
 
 -- the replies are the one of this call
 abbrev pub IsReplyTo : Option OpenCall → Reply → List CallReply → Type 0
 IsReplyTo None reply replies = Unit {0}
 IsReplyTo (Some c) reply replies = replies ≡ record { txn = c.txn; caller = c.caller; call = c.call; reply = reply } ∷ []
+
+-- the replies are the one of this call, if there is a reply
+abbrev pub AreRepliesTo : Option OpenCall → Option Reply → List CallReply → Type 0
+AreRepliesTo c None replies = replies ≡ []
+AreRepliesTo c (Some reply) replies = IsReplyTo c reply replies

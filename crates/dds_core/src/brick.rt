@@ -9,7 +9,8 @@ use dds_base::memory::Memory;
 use dds_base::number::{NodeNo, TxnNo};
 use dds_base::pending::Pending;
 use dds_base::value::Value;
-use dds_letters::letter::{Answer, Letter};
+use dds_letters::letter::Letter;
+use dds_letters::refusal::{Answer, Ballot};
 use std::alloc::Global;
 
 /// What a letter does at a brick. After `Memory` nothing is said of the state.
@@ -116,7 +117,11 @@ fn prepare(
     ensures replies { IfOk result (λ turn. turn.replies ≡ []) }
 {
     let mut turn = CoreTurn::nothing(alloc);
-    turn.letters.push(from, Letter::Vote { txn: pending.txn })?;
+    let vote = Letter::Vote {
+        txn: pending.txn,
+        vote: Ballot::Yes,
+    };
+    turn.letters.push(from, vote)?;
     state.pending.push(pending)?;
     Ok(turn)
 }

@@ -1,9 +1,9 @@
 //! What a call and each letter do at a library.
 
-ghost use Rattle.std.specs.Prelude.{◌≡◌, ◌+◌, ◌<◌, ◌≤◌, ◌^◌, [], ◌∷◌, false, IfOk, IfSome, OnOk, length, slice_get};
+ghost use Rattle.std.specs.Prelude.{◌≡◌, ◌+◌, ◌<◌, ◌≤◌, ◌^◌, [], ◌∷◌, false, IfOk, IfSome, OnOk, length, slice_get, is_some, if◌then◌else◌};
 ghost use Rattle.std.specs.List.{remove};
 ghost use Rattle.dds_base.specs.Op.{is_get};
-ghost use Rattle.dds_core.specs.Library.{library_turn, library_input, opened, first_letter, first_phase, the_member, least_attempt, call_place, reply_of, at_place, got_in, vote_in, applied_in, IsReplyTo};
+ghost use Rattle.dds_core.specs.Library.{library_turn, library_input, opened, first_letter, first_phase, the_member, least_attempt, call_place, reply_of, at_place, got_in, vote_in, applied_in, IsReplyTo, AreRepliesTo};
 
 use crate::state::{LibraryState, OpenCall, Phase};
 use crate::turn::{CallReply, CoreTurn};
@@ -13,7 +13,8 @@ use dds_base::number::{CallNo, CallerNo, NodeNo, TxnNo};
 use dds_base::op::{Op, Reply};
 use dds_base::update::Update;
 use dds_history::table::reply_with;
-use dds_letters::letter::{Answer, Letter};
+use dds_letters::letter::Letter;
+use dds_letters::refusal::{Answer, Ballot};
 use std::alloc::Global;
 
 /// Opens a call and begins its attempt. After `Memory` nothing is said of the state.
@@ -131,7 +132,10 @@ pub fn library_turn(
 {
     match letter {
         Letter::Got { txn, answer } => got(alloc, state, *txn, answer),
-        Letter::Vote { txn } => vote(alloc, state, *txn),
+        Letter::Vote {
+            txn,
+            vote: Ballot::Yes,
+        } => vote(alloc, state, *txn),
         Letter::Applied { txn, was } => applied(alloc, state, *txn, *was),
         _ => Ok(CoreTurn::nothing(alloc)),
     }
@@ -155,8 +159,7 @@ fn got(
         return Ok(CoreTurn::nothing(alloc));
     };
     if let Phase::Getting { brick: _ } = state.calls.at(place).phase {
-        let reply = reply_of(answer)?;
-        return answered(alloc, state, place, reply);
+        return answered_if(alloc, state, place, reply_of(answer)?);
     }
     Ok(CoreTurn::nothing(alloc))
 }
@@ -251,12 +254,31 @@ fn answered(
     Ok(turn)
 }
 
-/// The reply of a get.
-fn reply_of(answer: &Answer) -> Result<Reply, Memory>
+fn answered_if(
+    alloc: Global,
+    state: &mut LibraryState,
+    place: usize,
+    reply: Option<Reply>,
+) -> Result<CoreTurn, Memory>
+    requires { place < length state.old.calls }
+    ensures state { OnOk result (state.new ≡ (if is_some reply then record state.old { calls = remove state.old.calls place } else state.old)) }
+    ensures letters { IfOk result (λ turn. turn.letters ≡ []) }
+    ensures points { IfOk result (λ turn. turn.points ≡ []) }
+    ensures replies { IfOk result (λ turn. AreRepliesTo (slice_get state.old.calls place) reply turn.replies) }
+{
+    match reply {
+        Some(reply) => answered(alloc, state, place, reply),
+        None => Ok(CoreTurn::nothing(alloc)),
+    }
+}
+
+/// The reply of a get; a refusal is none.
+fn reply_of(answer: &Answer) -> Result<Option<Reply>, Memory>
     ensures { IfOk result (λ reply. reply ≡ reply_of answer.now) }
 {
     match answer {
-        Answer::Absent => Ok(Reply::Absent),
-        Answer::Value(value) => Ok(Reply::Value(value.copy()?)),
+        Answer::Absent => Ok(Some(Reply::Absent)),
+        Answer::Value(value) => Ok(Some(Reply::Value(value.copy()?))),
+        Answer::Refused(_) => Ok(None),
     }
 }

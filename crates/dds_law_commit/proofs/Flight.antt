@@ -10,6 +10,7 @@ use Rattle.dds_history.specs.History.{replay, IsLegal}
 use Rattle.dds_history.specs.declared.entry.Entry.{Entry}
 use Rattle.dds_letters.specs.declared.letter.Letter.{Letter}
 use Rattle.dds_letters.specs.declared.letter.Letter.TheVariants.{Got, Vote, Commit, Applied}
+use Rattle.dds_letters.specs.declared.refusal.Ballot.TheVariants.{Yes}
 use Rattle.dds_core.specs.declared.state.LibraryState.{LibraryState}
 use Rattle.dds_core.specs.declared.state.OpenCall.{OpenCall}
 use Rattle.dds_base.specs.declared.pending.Pending.{Pending}
@@ -129,7 +130,7 @@ world_in xs k (asked posted a) =
 world_in xs k (found posted a place) =
     to_library posted (table xs) [] (the_library (length xs + 1) (the_call xs a ∷ [])) k (Got (the_txn xs) (answer_of (get (table xs) (the_key a.op))))
 world_in xs k (voted posted a) =
-    to_library posted (table xs) (the_pending xs a ∷ []) (the_library (length xs + 1) (the_call xs a ∷ [])) k (Vote (the_txn xs))
+    to_library posted (table xs) (the_pending xs a ∷ []) (the_library (length xs + 1) (the_call xs a ∷ [])) k (Vote (the_txn xs) Yes)
 world_in xs k (decided posted a) =
     to_brick posted (table xs) (the_pending xs a ∷ []) (the_library (length xs + 1) (the_committing xs a ∷ [])) k (Commit (the_txn xs))
 world_in xs k (applied posted a place) =

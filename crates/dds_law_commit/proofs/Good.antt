@@ -12,8 +12,6 @@ use Rattle.std.specs.Prelude.{Option, Some, None}
 use Rattle.std.specs.FinMap.{get}
 use Rattle.dds_base.specs.Number.{same_txn}
 use Rattle.dds_history.specs.Map.{found as found_reply, reply_to}
-use Rattle.dds_core.specs.Brick.{answer_of}
-use Rattle.dds_core.specs.Library.{reply_of}
 use Rattle.dds_world.specs.World.{World}
 use Rattle.dds_world.specs.Trace.{Asked, next, is_applied}
 use Rattle.dds_world.specs.Stands.{IsNode, is_open_call, answers}
@@ -137,12 +135,8 @@ good-decided xs n k place caller call (op.Swap key expected value) right =
     let a = new_call place caller call (op.Swap key expected value) in
     record { settled = xs; steps = n + 1; letters = k + 1; flight = applied false a n; is = commit-swap xs n k place caller call key expected value (not-applied xs _ refl right.numbers); right = moved xs n (n + 1) _ (applied false a n) right (newest-later xs n a right.open_call.0, point-now n a right.open_call.0.before, refl) }
 
--- a get's reply is what its brick found
-pub reply-found : (o : Option (List ℕ)) → reply_of (answer_of o) ≡ found_reply o
-reply-found None = refl
-reply-found (Some value) = refl
-
-pub result-found : (o : Option (List ℕ)) → IsResult (reply_of (answer_of o))
+-- a get's reply is a result
+pub result-found : (o : Option (List ℕ)) → IsResult (found_reply o)
 result-found None = tt
 result-found (Some value) = tt
 
@@ -150,8 +144,8 @@ result-found (Some value) = tt
 pub good-found : (xs : List Settled) (n k place caller p : ℕ) (call : CallNo) (o : Op) → IsRight xs n (found true (new_call place caller call o) p) → IsGood (next (trace_in xs n k (found true (new_call place caller call o) p)) (step.Handle 64 0))
 good-found xs n k place caller p call (op.Get key) right =
     let a = new_call place caller call (op.Get key) in
-    let r = reply_of (answer_of (get (table xs) key)) in
-    record { settled = xs ++ answered xs n p a r ∷ []; steps = n + 1; letters = k + 1; flight = idle; is = got-found xs n k p place caller call key; right = settle xs n p _ a r right right.open_call.0 right.open_call.1 (reply-found (get (table xs) key)) (result-found (get (table xs) key)) }
+    let r = found_reply (get (table xs) key) in
+    record { settled = xs ++ answered xs n p a r ∷ []; steps = n + 1; letters = k + 1; flight = idle; is = got-found xs n k p place caller call key; right = settle xs n p _ a r right right.open_call.0 right.open_call.1 refl (result-found (get (table xs) key)) }
 good-found xs n k place caller p call (op.Put key value) right = absurd (no false right.open_call.2 refl)
 good-found xs n k place caller p call (op.Remove key) right = absurd (no false right.open_call.2 refl)
 good-found xs n k place caller p call (op.Swap key expected value) right = absurd (no false right.open_call.2 refl)

@@ -5,8 +5,7 @@ use Rattle.dds_base.specs.declared.number.CallNo.{CallNo}
 use Rattle.dds_base.specs.declared.op.Op.{Op}
 use Rattle.dds_base.specs.declared.op.Op.TheVariants as op
 use Rattle.dds_history.specs.Map.{reply_to}
-use Rattle.dds_core.specs.Brick.{answer_of}
-use Rattle.dds_core.specs.Library.{reply_of}
+use Rattle.dds_history.specs.Map.{found as found_reply}
 use Rattle.dds_world.specs.World.{outbox}
 use Rattle.dds_world.specs.Turn.{turn, CanInput, library_at}
 use Rattle.dds_world.specs.Trace.{Trace, Asked, next}
@@ -20,8 +19,8 @@ use Rattle.dds_world.specs.declared.step.Step.TheVariants as step
 use Rattle.dds_law_commit.specs.Counting.{point_entries, replies_entries, reply_entries, event_after, still_open}
 use Rattle.dds_law_commit.proofs.Lists.{all-weaker, all-map, all-unmap, all-front, any-none}
 use Rattle.dds_law_commit.proofs.Flight.{Settled, askeds, tolds, table, Flight, idle, asked, found, voted, decided, applied, trace_in, world_in, asked_in, IsRight, IsGood}
-use Rattle.dds_law_commit.proofs.Steps.{nil, step-input, same-number, answered, length-push, new_call, post-asked, post-found, post-voted, post-decided, post-applied, get-asked, put-asked, remove-asked, swap-asked, vote-put, vote-remove, vote-swap, commit-put, commit-remove, commit-swap, got-found, applied-put, applied-remove, applied-swap}
-use Rattle.dds_law_commit.proofs.Good.{no, and-false, is-open, moved, newest-later, point-later, point-now, not-applied, settle, reply-found, result-found}
+use Rattle.dds_law_commit.proofs.Steps.{reply-found, nil, step-input, same-number, answered, length-push, new_call, post-asked, post-found, post-voted, post-decided, post-applied, get-asked, put-asked, remove-asked, swap-asked, vote-put, vote-remove, vote-swap, commit-put, commit-remove, commit-swap, got-found, applied-put, applied-remove, applied-swap}
+use Rattle.dds_law_commit.proofs.Good.{no, and-false, is-open, moved, newest-later, point-later, point-now, not-applied, settle, result-found}
 use Rattle.dds_law_commit.proofs.Standing.{extra}
 use Rattle.dds_law_commit.proofs.Moves.{length-map, all-told, next_of, picked-in, open-in, history-in}
 
@@ -45,7 +44,7 @@ moved-by s xs ys n m k l f g r q is p e o c =
 after-handle : (node from : ℕ) (xs ys : List Settled) (n m k l : ℕ) (f g : Flight) → next (trace_in xs n k f) (step.Handle node from) ≡ trace_in ys m l g → (o : Option Step) → (if length (outbox (world_in ys l g) node) == 0 then None else Some (step.Post node)) ≡ o → event_after (world_in xs k f) (step.Handle node from) ≡ o
 after-handle node from xs ys n m k l f g is o e = ap (λ (t : Trace). if length (outbox t.world node) == 0 then None else Some (step.Post node)) is ∙ e
 
-one-entry : (o : Option (List ℕ)) → reply_entries (reply_of (answer_of o)) ≡ 1
+one-entry : (o : Option (List ℕ)) → reply_entries (found_reply o) ≡ 1
 one-entry None = refl
 one-entry (Some value) = refl
 
@@ -114,8 +113,8 @@ pub handles-found : (xs : List Settled) (n k place caller p : ℕ) (call : CallN
 unfolding next_of
 handles-found xs n k place caller p call (op.Get key) r =
     let a = new_call place caller call (op.Get key) in
-    let x = answered xs n p a (reply_of (answer_of (get (table xs) key))) in
-    moved-by (step.Handle 64 0) xs (xs ++ x ∷ []) n (n + 1) k (k + 1) (found true a p) idle r (settle xs n p _ a (reply_of (answer_of (get (table xs) key))) r r.open_call.0 r.open_call.1 (reply-found (get (table xs) key)) (result-found (get (table xs) key))) (got-found xs n k p place caller call key) (inr (omega arith, omega arith), inl (omega arith), λ e. cc) (after-handle 64 0 xs (xs ++ x ∷ []) n (n + 1) k (k + 1) (found true a p) idle (got-found xs n k p place caller call key) None refl) (rw (same-number (length xs)) refl) (rw (length-push xs x, same-number (length xs)) (omega (arith, one-entry (get (table xs) key))))
+    let x = answered xs n p a (found_reply (get (table xs) key)) in
+    moved-by (step.Handle 64 0) xs (xs ++ x ∷ []) n (n + 1) k (k + 1) (found true a p) idle r (settle xs n p _ a (found_reply (get (table xs) key)) r r.open_call.0 r.open_call.1 refl (result-found (get (table xs) key))) (got-found xs n k p place caller call key) (inr (omega arith, omega arith), inl (omega arith), λ e. cc) (after-handle 64 0 xs (xs ++ x ∷ []) n (n + 1) k (k + 1) (found true a p) idle (got-found xs n k p place caller call key) None refl) (rw (same-number (length xs), reply-found (get (table xs) key)) refl) (rw (length-push xs x, same-number (length xs), reply-found (get (table xs) key)) (omega (arith, one-entry (get (table xs) key))))
 handles-found xs n k place caller p call (op.Put key value) r = absurd (no false r.open_call.2 refl)
 handles-found xs n k place caller p call (op.Remove key) r = absurd (no false r.open_call.2 refl)
 handles-found xs n k place caller p call (op.Swap key expected value) r = absurd (no false r.open_call.2 refl)

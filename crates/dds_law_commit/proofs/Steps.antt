@@ -1,4 +1,4 @@
-use Rattle.std.proofs.Common.{◌≡◌, ℕ, ◌+◌, true, false, List, [], ◌∷◌, ◌++◌, length, refl, sym, ap, ◌∙◌, eqb, arith, length-append}
+use Rattle.std.proofs.Common.{◌≡◌, ℕ, ◌+◌, true, false, Option, Some, None, List, [], ◌∷◌, ◌++◌, length, refl, sym, ap, ◌∙◌, eqb, arith, length-append}
 use Rattle.std.proofs.lemmas.List.{map-append}
 use Rattle.std.proofs.lemmas.Bool.Decides.{nat_tests}
 use Rattle.dds_base.specs.declared.number.CallNo.{CallNo}
@@ -12,7 +12,7 @@ use Rattle.std.specs.FinMap.{get, empty}
 use Rattle.dds_base.specs.declared.op.Reply.{Reply}
 use Rattle.dds_core.specs.Brick.{answer_of}
 use Rattle.dds_core.specs.Library.{reply_of}
-use Rattle.dds_history.specs.Map.{Map, after, reply_to}
+use Rattle.dds_history.specs.Map.{Map, after, found as found_reply, reply_to}
 use Rattle.dds_history.proofs.Histories.{replay_from-append}
 use Rattle.dds_law_commit.proofs.Flight.{entries, table, the_world, the_library, Settled, idle, asked, found, voted, decided, applied, trace_in, askeds, mades, the_point, the_txn}
 
@@ -103,12 +103,17 @@ length-push xs x = simp length-append
 same-rest : (m l : Map) (i j k : ℕ) → m ≡ l → i ≡ j → the_world m [] (the_library i []) [] [] [] [] (k + 0) ≡ the_world l [] (the_library j []) [] [] [] [] k
 same-rest m l i j k e f = let z : k + 0 ≡ k = omega arith in λ t. the_world (e t) [] (the_library (f t) []) [] [] [] [] (z t)
 
+-- a get's reply is what its brick found
+pub reply-found : (o : Option (List ℕ)) → reply_of (answer_of o) ≡ Some (found_reply o)
+reply-found None = refl
+reply-found (Some value) = refl
+
 -- Got at the library: a get is answered
-pub got-found : (xs : List Settled) (n k p place caller : ℕ) (call : CallNo) (key : ℕ) → next (trace_in xs n k (found true (new_call place caller call (op.Get key)) p)) (step.Handle 64 0) ≡ trace_in (xs ++ answered xs n p (new_call place caller call (op.Get key)) (reply_of (answer_of (get (table xs) key))) ∷ []) (n + 1) (k + 1) idle
+pub got-found : (xs : List Settled) (n k p place caller : ℕ) (call : CallNo) (key : ℕ) → next (trace_in xs n k (found true (new_call place caller call (op.Get key)) p)) (step.Handle 64 0) ≡ trace_in (xs ++ answered xs n p (new_call place caller call (op.Get key)) (found_reply (get (table xs) key)) ∷ []) (n + 1) (k + 1) idle
 got-found xs n k p place caller call key =
     let a = new_call place caller call (op.Get key) in
-    let x = answered xs n p a (reply_of (answer_of (get (table xs) key))) in
-    rw (same-number (length xs)) (same-trace _ _ (n + 1) _ _ _ _ _ _ (same-rest _ _ _ _ (k + 1) (sym (table-push xs x)) (sym (length-push xs x))) (nil _ ∙ sym (map-append (λ (y : Settled). y.asked) xs (x ∷ [])) ∙ sym (nil _)) (nil _ ∙ sym (map-append (λ (y : Settled). y.made) xs (x ∷ [])) ∙ sym (nil _)) (sym (map-append (λ (y : Settled). y.told) xs (x ∷ []))))
+    let x = answered xs n p a (found_reply (get (table xs) key)) in
+    rw (same-number (length xs), reply-found (get (table xs) key)) (same-trace _ _ (n + 1) _ _ _ _ _ _ (same-rest _ _ _ _ (k + 1) (sym (table-push xs x)) (sym (length-push xs x))) (nil _ ∙ sym (map-append (λ (y : Settled). y.asked) xs (x ∷ [])) ∙ sym (nil _)) (nil _ ∙ sym (map-append (λ (y : Settled). y.made) xs (x ∷ [])) ∙ sym (nil _)) (sym (map-append (λ (y : Settled). y.told) xs (x ∷ []))))
 
 -- Applied at the library: an update is answered
 pub applied-put : (xs : List Settled) (n k p place caller : ℕ) (call : CallNo) (key : ℕ) (value : List ℕ) → next (trace_in xs n k (applied true (new_call place caller call (op.Put key value)) p)) (step.Handle 64 0) ≡ trace_in (xs ++ answered xs n p (new_call place caller call (op.Put key value)) (reply_to (table xs) (op.Put key value)) ∷ []) (n + 1) (k + 1) idle
