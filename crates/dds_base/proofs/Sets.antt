@@ -1,10 +1,23 @@
 use Rattle.std.proofs.Common.{◌≡◌, ℕ, ◌-◌, ◌*◌, ◌%◌, ◌^◌, ◌<◌, ◌≤◌, ◌≢◌, ◌==◌, ◌||◌, true, false, eqb, ltb, cond, refl, arith}
 use Rattle.std.proofs.lemmas.Bool.Decides.{nat_tests}
 use Rattle.std.proofs.lemmas.Nat.Bits.{bit_at_set_same, bit_at_set_other}
+use Rattle.std.proofs.Math.Nat.{mod-eq_of_lt}
+use Rattle.std.proofs.Math.Pow.{pow-lt}
 use Rattle.std.specs.Int.{bit_at, w64}
 use Rattle.std.specs.Prelude.{bit_or}
-use Rattle.dds_base.specs.NodeSet.{has_node}
+use Rattle.dds_base.specs.NodeSet.{has_node, with_node}
 use Rattle.dds_base.specs.declared.node_set.NodeSet.{NodeSet}
+
+-- one bit of a word
+one-bit : (k : ℕ) → k < 64 → 1 * 2 ^ k % 2 ^ 64 ≡ 2 ^ k
+one-bit k h = let e : 1 * 2 ^ k ≡ 2 ^ k = omega arith in rw e (mod-eq_of_lt (pow-lt {i = k} {j = 64} h))
+
+-- a set with a node more, as its words are computed
+pub with-brick : (s : NodeSet) (node : ℕ) → node < 64 → ◌≡◌ {A = NodeSet} (record { bricks = bit_or s.bricks (1 * 2 ^ node % 2 ^ 64); libraries = s.libraries }) (with_node s node)
+with-brick s node h = let t : ltb node 64 ≡ true = grind (arith, nat_tests, h) in rw (t, one-bit node h) refl
+
+pub with-library : (s : NodeSet) (node : ℕ) → 64 ≤ node → node < 80 → ◌≡◌ {A = NodeSet} (record { bricks = s.bricks; libraries = bit_or s.libraries (1 * 2 ^ (node - 64) % 2 ^ 64) }) (with_node s node)
+with-library s node low high = let t : ltb node 64 ≡ false = grind (arith, nat_tests, low) in let k : node - 64 < 64 = omega arith in rw (t, one-bit (node - 64) k) refl
 
 -- a bit after `n | 1 << k`
 pub set-bit : (n k i : ℕ) → k < 64 → (bit_at (bit_or n (1 * 2 ^ k % 2 ^ 64)) i == 1) ≡ (i == k || bit_at n i == 1)

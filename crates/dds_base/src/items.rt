@@ -91,4 +91,18 @@ impl<T: Drop> Items<T> {
         self.content.insert(place, item)?;
         Ok(())
     }
+
+    /// Takes all items of another list, behind its own.
+    pub fn append(&mut self, mut other: Items<T>) -> Result<(), Memory>
+        ensures ok { OnOk result (self.new ≡ self.old ++ other) }
+    {
+        self.content.append(&mut other.content)?;
+        Ok(())
+    }
+
+    pub fn into_vec(self) -> Vec<T>
+        ensures { result.items ≡ self }
+    {
+        self.content
+    }
 }

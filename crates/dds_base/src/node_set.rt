@@ -1,7 +1,7 @@
 //! A set of nodes, as a bit for each.
 
 ghost use Rattle.std.specs.Prelude.{◌≡◌, ℕ, ◌==◌, ◌||◌, ◌<◌, false};
-ghost use Rattle.dds_base.specs.NodeSet.{has_node};
+ghost use Rattle.dds_base.specs.NodeSet.{has_node, no_nodes, with_node};
 
 use crate::number::NodeNo;
 
@@ -14,7 +14,8 @@ pub struct NodeSet {
 
 impl NodeSet {
     pub fn new() -> NodeSet
-        ensures { (node : ℕ) → has_node result node ≡ false }
+        ensures value { result ≡ no_nodes }
+        ensures none { (node : ℕ) → has_node result node ≡ false }
     {
         NodeSet {
             bricks: 0,
@@ -23,7 +24,8 @@ impl NodeSet {
     }
 
     pub fn add(&mut self, node: NodeNo)
-        ensures { (other : ℕ) → has_node self.new other ≡ (other == node || has_node self.old other) }
+        ensures value { self.new ≡ with_node self.old node }
+        ensures nodes { (other : ℕ) → has_node self.new other ≡ (other == node || has_node self.old other) }
     {
         let number = node.number();
         if number < 64 {

@@ -1,7 +1,10 @@
-//! The states of bricks and libraries, and what each letter and call does to them, one definition for each row.
+//! The nodes of the cluster as plain states, and what each call, order and letter does to them: one definition for each
+//! row, and a function that equals it.
 #![tactic(auto)]
 
-pub mod brick;
-pub mod library;
-pub mod state;
+pub mod brick_state;
+pub mod calls;
+pub mod library_state;
+pub mod nodes;
+pub mod refusal;
 pub mod turn;

@@ -1,11 +1,14 @@
 //! What a turn of a node gives besides its new state.
 
-ghost use Rattle.std.specs.Prelude.{◌≡◌, []};
+ghost use Rattle.std.specs.Prelude.{◌≡◌, [], ◌∷◌, IfOk};
+ghost use Rattle.dds_core.specs.Turn.{no_out, letters_out, reply_out, both};
 
 use dds_base::items::Items;
-use dds_base::number::{CallNo, CallerNo, TxnNo};
-use dds_base::op::Reply;
+use dds_base::memory::Memory;
+use dds_base::number::{CallNo, CallerNo, NodeNo, TxnNo};
+use dds_base::op::{OrderReply, Reply};
 use dds_base::value::Value;
+use dds_letters::letter::Letter;
 use dds_letters::outbox::Outbox;
 use std::alloc::Global;
 
@@ -17,20 +20,23 @@ pub enum Point {
     Applied { txn: TxnNo, was: bool },
 }
 
-/// A call's answer, with the attempt that gave it.
+/// An answer: of a call, with the attempt that gave it, or of an order.
 #[derive(Debug, Drop)]
-pub struct CallReply {
-    pub txn: TxnNo,
-    pub caller: CallerNo,
-    pub call: CallNo,
-    pub reply: Reply,
+pub enum Replied {
+    Call {
+        txn: TxnNo,
+        caller: CallerNo,
+        call: CallNo,
+        reply: Reply,
+    },
+    Order(OrderReply),
 }
 
 pub type PointList = Items<Point>;
 
-pub type ReplyList = Items<CallReply>;
+pub type ReplyList = Items<Replied>;
 
-/// What a turn sends, its points in the order of noting, and its answers.
+/// The letters that a turn sends, its points in the order of noting, and its answers.
 #[derive(Drop)]
 pub struct CoreTurn {
     pub letters: Outbox,
@@ -39,16 +45,66 @@ pub struct CoreTurn {
 }
 
 impl CoreTurn {
-    /// A turn that does nothing; takes no memory.
-    pub fn nothing(alloc: Global) -> CoreTurn
-        ensures letters { result.letters ≡ [] }
-        ensures points { result.points ≡ [] }
-        ensures replies { result.replies ≡ [] }
+    /// A turn that gives nothing; takes no memory.
+    pub fn new(alloc: Global) -> CoreTurn
+        ensures { result ≡ no_out }
     {
         CoreTurn {
             letters: Outbox::new(alloc),
             points: Items::new(alloc),
             replies: Items::new(alloc),
         }
+    }
+
+    /// A turn that sends one letter.
+    pub fn letter(alloc: Global, to: NodeNo, letter: Letter) -> Result<CoreTurn, Memory>
+        ensures { IfOk result (λ turn. turn ≡ letters_out ((to, letter) ∷ [])) }
+    {
+        let mut letters = Outbox::new(alloc);
+        letters.push(to, letter)?;
+        Ok(CoreTurn::letters(alloc, letters))
+    }
+
+    /// A turn that sends letters; takes no memory.
+    pub fn letters(alloc: Global, letters: Outbox) -> CoreTurn
+        ensures { result ≡ letters_out letters }
+    {
+        CoreTurn {
+            letters,
+            points: Items::new(alloc),
+            replies: Items::new(alloc),
+        }
+    }
+
+    /// A turn that answers.
+    pub fn reply(alloc: Global, reply: Replied) -> Result<CoreTurn, Memory>
+        ensures { IfOk result (λ turn. turn ≡ reply_out reply) }
+    {
+        let mut replies = ReplyList::new(alloc);
+        replies.push(reply)?;
+        Ok(CoreTurn {
+            letters: Outbox::new(alloc),
+            points: Items::new(alloc),
+            replies,
+        })
+    }
+
+    /// What this turn gives, and then what the next one gives.
+    pub fn with(self, next: CoreTurn) -> Result<CoreTurn, Memory>
+        ensures { IfOk result (λ turn. turn ≡ both self next) }
+    {
+        let CoreTurn {
+            mut letters,
+            mut points,
+            mut replies,
+        } = self;
+        letters.append(next.letters)?;
+        points.append(next.points)?;
+        replies.append(next.replies)?;
+        Ok(CoreTurn {
+            letters,
+            points,
+            replies,
+        })
     }
 }

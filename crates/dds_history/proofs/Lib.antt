@@ -1,3 +1,4 @@
 pub mod Seen
 pub mod Bindings
 pub mod Histories
+pub mod Entries

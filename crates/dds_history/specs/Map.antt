@@ -1,10 +1,11 @@
-use Rattle.std.specs.Prelude.{ℕ, Bool, false, List, Option, Some, None, is_some, ◌==◌, if◌then◌else◌}
+use Rattle.std.specs.Prelude.{ℕ, Bool, false, List, Option, Some, None, is_some, map, ◌==◌, if◌then◌else◌}
 use Rattle.std.specs.Ordering.{nat_cmp}
 use Rattle.std.specs.FinMap.{FinMap, get, insert, remove, code}
 use Rattle.std.specs.Str.{bytes_eq}
 use Rattle.std.specs.Coded.{Coded, coded_ℕ, coded_list}
 use Rattle.dds_base.specs.Op.{the_key}
 use Rattle.dds_base.specs.declared.op.Op.{Op}
+use Rattle.dds_base.specs.declared.pair.Pair.{Pair}
 use Rattle.dds_base.specs.declared.op.Op.TheVariants.{Get, Put, Remove, Swap}
 use Rattle.dds_base.specs.declared.op.Reply.{Reply}
 use Rattle.dds_base.specs.declared.op.Reply.TheVariants.{Value, Absent, Done, Swapped}
@@ -70,3 +71,7 @@ after m (Swap key expected value) = if is_bound_to (get m key) expected then ins
 -- what an operation leaves any key bound to, from what that key was bound to
 abbrev pub bound_by : Option (List ℕ) → Op → ℕ → Option (List ℕ)
 bound_by bound op key = if the_key op == key then bound_after bound op else bound
+
+-- the pairs of a table's entries
+abbrev pub pairs_of : List (ℕ × List ℕ) → List Pair
+pairs_of es = map (λ e. record { key = e.0; value = e.1 }) es

@@ -1,12 +1,15 @@
 //! A table in memory, seen as the finite map that callers see.
 
-ghost use Rattle.std.specs.Prelude.{◌≡◌, OnOk, OnErr, IfOk, option_copied};
+ghost use Rattle.std.specs.Prelude.{◌≡◌, count_by, OnOk, OnErr, IfOk, option_copied};
 ghost use Rattle.std.specs.FinMap as map;
+ghost use Rattle.dds_base.specs.Name.{covers};
 ghost use Rattle.dds_base.specs.Op.{the_key};
-ghost use Rattle.dds_history.specs.Map.{after, reply_to, reply_with, flag_of, is_bound_to};
+ghost use Rattle.dds_history.specs.Map.{after, reply_to, reply_with, flag_of, is_bound_to, pairs_of};
 
 use dds_base::memory::Memory;
+use dds_base::name::LeafName;
 use dds_base::op::{Op, Reply};
+use dds_base::pair::{Pair, PairList};
 use dds_base::value::Value;
 use std::alloc::Global;
 use std::collections::BTreeMap;
@@ -61,6 +64,33 @@ impl Table {
         ensures was { result ≡ map.contains_key self.old key }
     {
         self.pairs.remove(&key).is_some()
+    }
+
+    /// How many keys lie under a name.
+    pub fn count_under(&self, name: LeafName) -> usize
+        ensures { result ≡ count_by (λ key. covers name key) (map.keys self.now) }
+    {
+        let mut count = 0;
+        for key in self.pairs.keys() {
+            if name.covers(*key) {
+                count += 1;
+            }
+        }
+        count
+    }
+
+    /// All pairs in the order of their keys.
+    pub fn pairs(&self, alloc: Global) -> Result<PairList, Memory>
+        ensures { IfOk result (λ pairs. pairs ≡ pairs_of (map.entries self.now)) }
+    {
+        let mut pairs = PairList::new(alloc);
+        for (key, value) in self.pairs.iter() {
+            pairs.push(Pair {
+                key: *key,
+                value: value.copy()?,
+            })?;
+        }
+        Ok(pairs)
     }
 
     /// Does an operation. Of an update, the flag says what it found: a swap, whether the key was bound to the expected

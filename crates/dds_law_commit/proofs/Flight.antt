@@ -11,12 +11,12 @@ use Rattle.dds_history.specs.declared.entry.Entry.{Entry}
 use Rattle.dds_letters.specs.declared.letter.Letter.{Letter}
 use Rattle.dds_letters.specs.declared.letter.Letter.TheVariants.{Got, Vote, Commit, Applied}
 use Rattle.dds_letters.specs.declared.refusal.Ballot.TheVariants.{Yes}
-use Rattle.dds_core.specs.declared.state.LibraryState.{LibraryState}
-use Rattle.dds_core.specs.declared.state.OpenCall.{OpenCall}
+use Rattle.dds_first_core.specs.declared.state.LibraryState.{LibraryState}
+use Rattle.dds_first_core.specs.declared.state.OpenCall.{OpenCall}
 use Rattle.dds_base.specs.declared.pending.Pending.{Pending}
-use Rattle.dds_core.specs.declared.state.Phase.TheVariants.{Committing}
-use Rattle.dds_core.specs.Brick.{answer_of}
-use Rattle.dds_core.specs.Library.{opened, first_letter}
+use Rattle.dds_first_core.specs.declared.state.Phase.TheVariants.{Committing}
+use Rattle.dds_first_core.specs.Brick.{answer_of}
+use Rattle.dds_first_core.specs.Library.{opened, first_letter}
 use Rattle.dds_script.specs.Grammar.{first_leaf}
 use Rattle.dds_world.specs.World.{World}
 use Rattle.dds_world.specs.Trace.{Trace, Asked, Made, Told}

@@ -10,8 +10,8 @@ use Rattle.dds_world.specs.declared.step.Input.TheVariants.{Call}
 use Rattle.dds_world.specs.declared.step.Step.TheVariants as step
 use Rattle.std.specs.FinMap.{get, empty}
 use Rattle.dds_base.specs.declared.op.Reply.{Reply}
-use Rattle.dds_core.specs.Brick.{answer_of}
-use Rattle.dds_core.specs.Library.{reply_of}
+use Rattle.dds_first_core.specs.Brick.{answer_of}
+use Rattle.dds_first_core.specs.Library.{reply_of}
 use Rattle.dds_history.specs.Map.{Map, after, found as found_reply, reply_to}
 use Rattle.dds_history.proofs.Histories.{replay_from-append}
 use Rattle.dds_law_commit.proofs.Flight.{entries, table, the_world, the_library, Settled, idle, asked, found, voted, decided, applied, trace_in, askeds, mades, the_point, the_txn}

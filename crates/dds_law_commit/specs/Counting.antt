@@ -1,9 +1,9 @@
 use Rattle.std.specs.Prelude.{ℕ, ◌+◌, ◌==◌, List, [], ◌∷◌, Option, Some, None, length, option_map, if◌then◌else◌}
 use Rattle.dds_base.specs.declared.op.Reply.{Reply}
 use Rattle.dds_base.specs.declared.op.Reply.TheVariants as reply
-use Rattle.dds_core.specs.declared.turn.Point.{Point}
-use Rattle.dds_core.specs.declared.turn.Point.TheVariants.{Read, Applied}
-use Rattle.dds_core.specs.declared.turn.CallReply.{CallReply}
+use Rattle.dds_first_core.specs.declared.turn.Point.{Point}
+use Rattle.dds_first_core.specs.declared.turn.Point.TheVariants.{Read, Applied}
+use Rattle.dds_first_core.specs.declared.turn.CallReply.{CallReply}
 use Rattle.dds_world.specs.World.{World, outbox}
 use Rattle.dds_world.specs.Turn.{first_receiver, turn}
 use Rattle.dds_world.specs.Trace.{Asked}

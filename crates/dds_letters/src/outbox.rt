@@ -50,4 +50,12 @@ impl Outbox {
     {
         self.letters.pop_front()
     }
+
+    /// Takes all letters of another outbox, behind its own.
+    pub fn append(&mut self, mut other: Outbox) -> Result<(), Memory>
+        ensures ok { OnOk result (self.new ≡ self.old ++ other) }
+    {
+        self.letters.append(&mut other.letters)?;
+        Ok(())
+    }
 }

@@ -1,7 +1,7 @@
 //! The write leases that a brick gave, in the order of giving.
 
 ghost use Rattle.std.specs.Prelude.{◌≡◌, ◌<◌, IfSome, position, length};
-ghost use Rattle.dds_locks.specs.Leases.{leased, lease_of, is_lease, released, released_all};
+ghost use Rattle.dds_locks.specs.Leases.{leased, lease_covers, lease_of, is_given, is_lease, released, released_all};
 
 use dds_base::items::Items;
 use dds_base::memory::Memory;
@@ -26,6 +26,22 @@ pub fn leased(leases: &[Lease], name: LeafName) -> Option<NodeNo>
         }
     }
     None
+}
+
+/// Whether a lease's name covers the key.
+pub fn lease_covers(leases: &[Lease], key: u64) -> bool
+    ensures { result ≡ lease_covers leases.now key }
+{
+    leases.iter().any(|lease| lease.name.covers(key))
+}
+
+/// Whether a lease of this name and holder stands.
+pub fn is_given(leases: &[Lease], name: LeafName, to: NodeNo) -> bool
+    ensures { result ≡ is_given leases.now name to }
+{
+    leases
+        .iter()
+        .any(|lease| lease.holder == to && lease.name == name)
 }
 
 /// The name of the first lease of this holder that overlaps the name; `None` where it has none.

@@ -4,11 +4,11 @@ ghost use Rattle.std.specs.Prelude.{◌≡◌, ◌++◌, ◌∷◌, [], ◌≤�
 ghost use Rattle.std.specs.FinMap as map;
 ghost use Rattle.dds_base.specs.Op.{the_key};
 ghost use Rattle.dds_locks.specs.Pending.{holder, first_of, without, any_under};
-ghost use Rattle.dds_locks.specs.Leases.{leased, lease_of, released, released_all};
+ghost use Rattle.dds_locks.specs.Leases.{leased, lease_covers, lease_of, is_given, released, released_all};
 ghost use Rattle.dds_locks.specs.Outcomes.{trimmed};
 ghost use Rattle.dds_locks.specs.Status.{noted_status, status};
 
-use crate::leases::{Lease, lease_of, leased, release, release_all};
+use crate::leases::{Lease, is_given, lease_covers, lease_of, leased, release, release_all};
 use crate::outcomes::Outcomes;
 use crate::pending::PendingSet;
 use dds_base::items::Items;
@@ -74,6 +74,13 @@ impl Locks {
         self.pending.unlock(txn)
     }
 
+    /// The pending transactions in the order of preparing.
+    pub fn pending(&self) -> &[Pending]
+        ensures { result.now ≡ self.now.pending }
+    {
+        self.pending.as_slice()
+    }
+
     /// The pending transaction at this place of the order of preparing; `None` past the end.
     pub fn pending_at(&self, place: usize) -> Option<&Pending>
         ensures { option_copied result ≡ slice_get self.now.pending place }
@@ -102,6 +109,20 @@ impl Locks {
         ensures { result ≡ leased self.now.leases name }
     {
         leased(self.leases.as_slice(), name)
+    }
+
+    /// Whether a lease's name covers the key.
+    pub fn lease_covers(&self, key: u64) -> bool
+        ensures { result ≡ lease_covers self.now.leases key }
+    {
+        lease_covers(self.leases.as_slice(), key)
+    }
+
+    /// Whether a lease of this name and holder stands.
+    pub fn is_given(&self, name: LeafName, to: NodeNo) -> bool
+        ensures { result ≡ is_given self.now.leases name to }
+    {
+        is_given(self.leases.as_slice(), name, to)
     }
 
     /// The name of the node's first lease that overlaps the name; `None` where it has none.

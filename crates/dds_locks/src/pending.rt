@@ -100,6 +100,13 @@ impl PendingSet {
         Some(pending)
     }
 
+    /// The pending transactions in the order of preparing.
+    pub fn as_slice(&self) -> &[Pending]
+        ensures { result.now ≡ self.now }
+    {
+        self.items.as_slice()
+    }
+
     /// The transaction at this place of the order of preparing; `None` past the end.
     pub fn at(&self, place: usize) -> Option<&Pending>
         ensures { option_copied result ≡ slice_get self.now place }

@@ -5,7 +5,7 @@ use Rattle.std.specs.List.{AllByRecursion}
 use Rattle.dds_base.specs.declared.number.CallerNo.{CallerNo}
 use Rattle.dds_base.specs.declared.number.CallNo.{CallNo}
 use Rattle.dds_base.specs.declared.op.Op.{Op}
-use Rattle.dds_core.specs.declared.turn.CallReply.{CallReply}
+use Rattle.dds_first_core.specs.declared.turn.CallReply.{CallReply}
 use Rattle.dds_world.specs.World.{World}
 use Rattle.dds_world.specs.Turn.{turn}
 use Rattle.dds_world.specs.Trace.{Trace, Asked, next, trace_from}

@@ -5,7 +5,7 @@ ghost use Rattle.dds_world.specs.Walk.{answer_line};
 
 use dds_base::items::Items;
 use dds_base::memory::Memory;
-use dds_core::turn::{CallReply, ReplyList};
+use dds_first_core::turn::{CallReply, ReplyList};
 use dds_script::report_line::ReportLine;
 
 /// Adds the lines of these answers.

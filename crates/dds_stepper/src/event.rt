@@ -9,7 +9,7 @@ ghost use Rattle.dds_stepper.specs.Event.{event_step};
 use dds_base::memory::Memory;
 use dds_base::number::NodeNo;
 use dds_base::op::Reply;
-use dds_core::turn::{CallReply, Point, ReplyList};
+use dds_first_core::turn::{CallReply, Point, ReplyList};
 use dds_world::cluster::Cluster;
 use dds_world::step::Step;
 use std::alloc::Global;

@@ -1,8 +1,8 @@
 use Rattle.std.proofs.Common.{◌≡◌, ℕ, ◌+◌, ◌-◌, ◌<◌, List, [], ◌∷◌, ◌++◌, zero, suc, length, ap, ◌∙◌, refl, arith, append_assoc}
 use Rattle.std.specs.FinMap.{empty}
 use Rattle.dds_base.specs.declared.leaf.Leaf.{Leaf}
-use Rattle.dds_core.specs.declared.state.BrickState.{BrickState}
-use Rattle.dds_core.specs.declared.state.LibraryState.{LibraryState}
+use Rattle.dds_first_core.specs.declared.state.BrickState.{BrickState}
+use Rattle.dds_first_core.specs.declared.state.LibraryState.{LibraryState}
 use Rattle.dds_world.specs.World.{new_bricks, new_libraries}
 
 -- one node more of the row

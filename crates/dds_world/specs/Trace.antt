@@ -7,11 +7,11 @@ use Rattle.dds_base.specs.declared.op.Op.{Op}
 use Rattle.dds_base.specs.declared.op.Reply.{Reply}
 use Rattle.dds_history.specs.Map.{found, reply_with}
 use Rattle.dds_history.specs.declared.entry.Entry.{Entry}
-use Rattle.dds_core.specs.declared.state.LibraryState.{LibraryState}
-use Rattle.dds_core.specs.declared.state.OpenCall.{OpenCall}
-use Rattle.dds_core.specs.declared.turn.Point.{Point}
-use Rattle.dds_core.specs.declared.turn.Point.TheVariants.{Read, Applied}
-use Rattle.dds_core.specs.declared.turn.CallReply.{CallReply}
+use Rattle.dds_first_core.specs.declared.state.LibraryState.{LibraryState}
+use Rattle.dds_first_core.specs.declared.state.OpenCall.{OpenCall}
+use Rattle.dds_first_core.specs.declared.turn.Point.{Point}
+use Rattle.dds_first_core.specs.declared.turn.Point.TheVariants.{Read, Applied}
+use Rattle.dds_first_core.specs.declared.turn.CallReply.{CallReply}
 use Rattle.dds_world.specs.World.{World}
 use Rattle.dds_world.specs.Turn.{WorldTurn, turn}
 use Rattle.dds_world.specs.declared.step.Input.{Input}

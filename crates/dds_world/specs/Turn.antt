@@ -4,13 +4,13 @@ use Rattle.dds_base.specs.declared.number.CallerNo.{CallerNo}
 use Rattle.dds_base.specs.declared.number.CallNo.{CallNo}
 use Rattle.dds_base.specs.declared.op.Op.{Op}
 use Rattle.dds_letters.specs.declared.letter.Letter.{Letter}
-use Rattle.dds_core.specs.declared.state.BrickState.{BrickState}
-use Rattle.dds_core.specs.declared.state.LibraryState.{LibraryState}
-use Rattle.dds_core.specs.declared.turn.Point.{Point}
-use Rattle.dds_core.specs.declared.turn.CallReply.{CallReply}
-use Rattle.dds_core.specs.Turn.{BrickTurn, LibraryTurn}
-use Rattle.dds_core.specs.Brick.{brick_turn}
-use Rattle.dds_core.specs.Library.{library_turn, library_input}
+use Rattle.dds_first_core.specs.declared.state.BrickState.{BrickState}
+use Rattle.dds_first_core.specs.declared.state.LibraryState.{LibraryState}
+use Rattle.dds_first_core.specs.declared.turn.Point.{Point}
+use Rattle.dds_first_core.specs.declared.turn.CallReply.{CallReply}
+use Rattle.dds_first_core.specs.Turn.{BrickTurn, LibraryTurn}
+use Rattle.dds_first_core.specs.Brick.{brick_turn}
+use Rattle.dds_first_core.specs.Library.{library_turn, library_input}
 use Rattle.dds_world.specs.World.{World, outbox, set_outbox, link, set_link, send}
 use Rattle.dds_world.specs.declared.step.Message.{Message}
 use Rattle.dds_world.specs.declared.step.Input.{Input}

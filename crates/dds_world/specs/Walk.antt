@@ -1,6 +1,6 @@
 use Rattle.std.specs.Prelude.{ℕ, ◌+◌, ◌%◌, List, [], ◌∷◌, ◌++◌, Option, Some, None, length, map, filter, if◌then◌else◌, zero, suc}
 use Rattle.dds_base.specs.declared.op.Op.{Op}
-use Rattle.dds_core.specs.declared.turn.CallReply.{CallReply}
+use Rattle.dds_first_core.specs.declared.turn.CallReply.{CallReply}
 use Rattle.dds_script.specs.declared.line.Line.{Line}
 use Rattle.dds_script.specs.declared.line.Line.TheVariants as line
 use Rattle.dds_script.specs.declared.opening.Script.{Script}

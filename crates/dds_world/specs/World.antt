@@ -4,10 +4,10 @@ use Rattle.std.specs.Coded.{Coded, code_by, coded×, coded_ℕ, coded_list}
 use Rattle.dds_base.specs.declared.number.NodeNo.{NodeNo}
 use Rattle.dds_base.specs.declared.leaf.Leaf.{Leaf}
 use Rattle.dds_letters.specs.declared.letter.Letter.{Letter}
-use Rattle.dds_core.specs.declared.state.BrickState.{BrickState}
-use Rattle.dds_core.specs.declared.state.LibraryState.{LibraryState}
-use Rattle.dds_core.specs.contracts.state.BrickState as brick
-use Rattle.dds_core.specs.contracts.state.LibraryState as library
+use Rattle.dds_first_core.specs.declared.state.BrickState.{BrickState}
+use Rattle.dds_first_core.specs.declared.state.LibraryState.{LibraryState}
+use Rattle.dds_first_core.specs.contracts.state.BrickState as brick
+use Rattle.dds_first_core.specs.contracts.state.LibraryState as library
 use Rattle.dds_script.specs.declared.opening.Opening.{Opening}
 use Rattle.dds_world.specs.declared.step.Message.{Message}
 use Rattle.dds_world.specs.contracts.step.Message as message

@@ -11,7 +11,7 @@ use dds_base::items::Items;
 use dds_base::leaf::Leaf;
 use dds_base::memory::Memory;
 use dds_base::number::NodeNo;
-use dds_core::state::{BrickState, LibraryState};
+use dds_first_core::state::{BrickState, LibraryState};
 use dds_history::table::Table;
 use dds_script::opening::Opening;
 use std::alloc::Global;

@@ -3,12 +3,12 @@ use Rattle.std.specs.List.{insert, remove}
 use Rattle.std.proofs.lemmas.List.{get_or_default}
 use Rattle.std.proofs.lemmas.Option.{slice_get_read}
 use Rattle.dds_base.specs.Number.{Txn}
-use Rattle.dds_core.specs.declared.state.LibraryState.{LibraryState}
-use Rattle.dds_core.specs.declared.state.OpenCall.{OpenCall}
-use Rattle.dds_core.specs.declared.state.Phase.TheVariants.{Preparing, Committing}
+use Rattle.dds_first_core.specs.declared.state.LibraryState.{LibraryState}
+use Rattle.dds_first_core.specs.declared.state.OpenCall.{OpenCall}
+use Rattle.dds_first_core.specs.declared.state.Phase.TheVariants.{Preparing, Committing}
 use Rattle.dds_letters.specs.declared.letter.Letter.TheVariants.{Commit}
-use Rattle.dds_core.specs.Library.{at_place, at_call, vote_in, call_place}
-use Rattle.dds_core.specs.Turn.{LibraryTurn}
+use Rattle.dds_first_core.specs.Library.{at_place, at_call, vote_in, call_place}
+use Rattle.dds_first_core.specs.Turn.{LibraryTurn}
 
 -- taking an item out and putting another in its place
 pub insert-remove : {X : Type 0} (xs : List X) (i : ℕ) (v : X) → i < length xs → insert (remove xs i) i v ≡ set xs i v

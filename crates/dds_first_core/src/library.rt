@@ -3,7 +3,7 @@
 ghost use Rattle.std.specs.Prelude.{◌≡◌, ◌+◌, ◌<◌, ◌≤◌, ◌^◌, [], ◌∷◌, false, IfOk, IfSome, OnOk, length, slice_get, is_some, if◌then◌else◌};
 ghost use Rattle.std.specs.List.{remove};
 ghost use Rattle.dds_base.specs.Op.{is_get};
-ghost use Rattle.dds_core.specs.Library.{library_turn, library_input, opened, first_letter, first_phase, the_member, least_attempt, call_place, reply_of, at_place, got_in, vote_in, applied_in, IsReplyTo, AreRepliesTo};
+ghost use Rattle.dds_first_core.specs.Library.{library_turn, library_input, opened, first_letter, first_phase, the_member, least_attempt, call_place, reply_of, at_place, got_in, vote_in, applied_in, IsReplyTo, AreRepliesTo};
 
 use crate::state::{LibraryState, OpenCall, Phase};
 use crate::turn::{CallReply, CoreTurn};

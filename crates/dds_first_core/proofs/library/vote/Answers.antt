@@ -1,8 +1,8 @@
 use Rattle.std.proofs.Common.{◌≡◌, ◌<◌, ap, sym, Some, length}
-use Rattle.dds_core.specs.Library.{call_place}
-use Rattle.dds_core.specs.Turn.{LibraryTurn}
-use Rattle.dds_core.proofs.Places.{vote-at}
-use Rattle.dds_core.proofs.library.vote.Goals as goal
+use Rattle.dds_first_core.specs.Library.{call_place}
+use Rattle.dds_first_core.specs.Turn.{LibraryTurn}
+use Rattle.dds_first_core.proofs.Places.{vote-at}
+use Rattle.dds_first_core.proofs.library.vote.Goals as goal
 
 pub returns-clause-state : goal.returns-clause-state
 returns-clause-state c =

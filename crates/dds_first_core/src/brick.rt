@@ -1,7 +1,7 @@
 //! What each letter does at a brick.
 
 ghost use Rattle.std.specs.Prelude.{◌≡◌, ◌<◌, [], IfOk, IfSome, OnOk, length, option_copied};
-ghost use Rattle.dds_core.specs.Brick.{brick_turn, pending_place, get_turn, prepare_turn, commit_turn, answer_of};
+ghost use Rattle.dds_first_core.specs.Brick.{brick_turn, pending_place, get_turn, prepare_turn, commit_turn, answer_of};
 
 use crate::state::BrickState;
 use crate::turn::{CoreTurn, Point};
