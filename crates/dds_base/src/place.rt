@@ -1,7 +1,7 @@
 //! The order in which a brick's pairs stand: by bucket, then by key.
 
 ghost use Rattle.std.specs.Prelude.{◌≡◌, ◌<◌};
-ghost use Rattle.dds_base.specs.Place.{bucket, is_before};
+ghost use Rattle.dds_base.specs.Place.{bucket, is_before, is_after};
 
 /// Buckets of a table.
 pub const BUCKETS: usize = 256;
@@ -24,4 +24,14 @@ pub fn is_before(a: u64, b: u64) -> bool
 {
     let (first, second) = (bucket(a), bucket(b));
     first < second || (first == second && a < b)
+}
+
+/// Whether a key stands after another one, if there is another one.
+pub fn is_after(other: Option<u64>, key: u64) -> bool
+    ensures { result ≡ is_after other key }
+{
+    match other {
+        None => true,
+        Some(other) => is_before(other, key),
+    }
 }

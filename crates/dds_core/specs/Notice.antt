@@ -1,7 +1,8 @@
 -- The five parts of a notice at a brick, in their order: a node has stopped.
-use Rattle.std.specs.Prelude.{ℕ, Bool, true, false, not, ◌==◌, ◌&&◌, ◌||◌, List, [], ◌∷◌, ◌++◌, Option, Some, None, is_none, if◌then◌else◌}
+use Rattle.std.specs.Prelude.{ℕ, Bool, true, false, not, ◌==◌, ◌&&◌, ◌||◌, List, [], ◌∷◌, ◌++◌, Option, Some, None, is_none, map, if◌then◌else◌}
 use Rattle.dds_base.specs.NodeSet.{has_node, with_node}
 use Rattle.dds_base.specs.BrickList.{has}
+use Rattle.dds_base.specs.Number.{Txn}
 use Rattle.dds_base.specs.declared.leaf.Leaf.{Leaf}
 use Rattle.dds_base.specs.declared.number.NodeNo.{NodeNo}
 use Rattle.dds_base.specs.declared.op.OrderReply.TheVariants as answered
@@ -9,7 +10,7 @@ use Rattle.dds_base.specs.declared.pending.Pending.{Pending}
 use Rattle.dds_letters.specs.declared.letter.Letter.TheVariants as letter
 use Rattle.dds_locks.specs.Leases.{released_all}
 use Rattle.dds_core.specs.Turn.{BrickTurn, still, sends, and_then, without, unknown}
-use Rattle.dds_core.specs.OwnOrder.{ends, leases_on, copies, installs_on, going_on}
+use Rattle.dds_core.specs.OwnOrder.{ends, leases_on, copies, installs_on, going_on, with_order}
 use Rattle.dds_core.specs.Resolution.{before, help_row, query_row, is_resolved, resolve, resolves_on, unwaited}
 use Rattle.dds_core.specs.declared.brick_state.BrickState.{BrickState}
 use Rattle.dds_core.specs.declared.brick_state.Deferred.{Deferred}
@@ -32,33 +33,34 @@ abbrev pub is_lost : OpenOrder → NodeNo → Task → Bool
 is_lost o y (task.Join via) = is_none o.leaf && via == y
 is_lost o y task.Split = false
 
-abbrev pub order_leased : BrickState → OpenOrder → NodeNo → BrickTurn
-order_leased s o y =
-    if is_lost o y o.task then ends s o answered.NoSource
-    else (if has o.waiting y then leases_on s (record o { waiting = without o.waiting y }) else still s)
+-- a notice of the node concerns the open order: it is the one way in, or waited for, or copied from
+abbrev pub concerns_in : OpenOrder → NodeNo → OrderPhase → Bool
+concerns_in o y Leasing = is_lost o y o.task || has o.waiting y
+concerns_in o y (Copying source) = source == y
+concerns_in o y (Installing made) = has o.waiting y
 
-abbrev pub order_copied : BrickState → OpenOrder → Bool → Option Leaf → BrickTurn
-order_copied s o false leaf = still s
-order_copied s o true None = still s
-order_copied s o true (Some leaf) = copies s o leaf
+abbrev pub concerns : NodeNo → OpenOrder → Bool
+concerns y o = concerns_in o y o.phase
 
-abbrev pub order_installed : BrickState → OpenOrder → NodeNo → Leaf → BrickTurn
-order_installed s o y made =
-    if has o.waiting y then installs_on s (record o { waiting = without o.waiting y }) made else still s
+abbrev pub concerns_some : NodeNo → Option OpenOrder → Bool
+concerns_some y None = false
+concerns_some y (Some o) = concerns y o
 
-abbrev pub order_in : BrickState → OpenOrder → NodeNo → OrderPhase → BrickTurn
-order_in s o y Leasing = order_leased s o y
-order_in s o y (Copying source) = order_copied s o (source == y) o.leaf
-order_in s o y (Installing made) = order_installed s o y made
+abbrev pub copies_again : BrickState → OpenOrder → Option Leaf → BrickTurn
+copies_again s o None = still (going_on s o)
+copies_again s o (Some leaf) = copies s o leaf
+
+abbrev pub order_goes : BrickState → OpenOrder → NodeNo → OrderPhase → BrickTurn
+order_goes s o y Leasing =
+    if is_lost o y o.task then ends s o answered.NoSource else leases_on s (record o { waiting = without o.waiting y })
+order_goes s o y (Copying source) = copies_again s o o.leaf
+order_goes s o y (Installing made) = installs_on s (record o { waiting = without o.waiting y }) made
 
 -- the open order goes on without the node: a join that lost its only way in ends, another one doesn't wait for it, and
 -- one that copies from it begins copying again
-abbrev pub order_at : BrickState → NodeNo → Option OpenOrder → BrickTurn
-order_at s y None = still s
-order_at s y (Some o) = order_in s o y o.phase
-
 abbrev pub order_part : BrickState → NodeNo → BrickTurn
-order_part s y = order_at s y s.order
+order_part s y =
+    if concerns_some y s.order then with_order s (λ t o. order_goes t o y o.phase) s.order else still s
 
 -- one resolving, which isn't in the state's list, goes on without the node
 abbrev pub resolving_goes : BrickState → NodeNo → Resolving → BrickTurn
@@ -85,24 +87,28 @@ asked_all_again s (d ∷ ds) = and_then (asked_again s d d.question) (λ t. aske
 abbrev pub deferred_part : BrickState → BrickTurn
 deferred_part s = asked_all_again (record s { deferred = [] }) s.deferred
 
-abbrev pub helped_by : BrickState → NodeNo → Pending → List ℕ → BrickTurn
-helped_by s y p [] = still s
-helped_by s y p (f ∷ fs) =
-    if f == s.number then resolve s p.txn p.list
-    else (if y == p.txn.library || has (before p.list f) y then sends s ((f, letter.Help p.txn p.list) ∷ []) else still s)
+abbrev pub helped_by : BrickState → NodeNo → Txn → List ℕ → List ℕ → BrickTurn
+helped_by s y txn list [] = still s
+helped_by s y txn list (f ∷ fs) =
+    if f == s.number then resolve s txn list
+    else (if y == txn.library || has (before list f) y then sends s ((f, letter.Help txn list) ∷ []) else still s)
 
 -- one pending transaction: where its library is known to have stopped and it isn't being resolved here, the first
 -- member that isn't known resolves it, or is told to where the notice made it the first
-abbrev pub pending_goes : BrickState → NodeNo → Pending → BrickTurn
-pending_goes s y p =
-    if has_node s.known p.txn.library && not (is_resolved s p.txn) then helped_by s y p (unknown p.list s.known) else still s
+abbrev pub pending_goes : BrickState → NodeNo → Txn → List ℕ → BrickTurn
+pending_goes s y txn list =
+    if has_node s.known txn.library && not (is_resolved s txn) then helped_by s y txn list (unknown list s.known) else still s
 
-abbrev pub pendings_go : BrickState → NodeNo → List Pending → BrickTurn
+-- pending transactions with their members
+abbrev pub numbered : List Pending → List (Txn × List ℕ)
+numbered ps = map (λ p. (p.txn, p.list)) ps
+
+abbrev pub pendings_go : BrickState → NodeNo → List (Txn × List ℕ) → BrickTurn
 pendings_go s y [] = still s
-pendings_go s y (p ∷ ps) = and_then (pending_goes s y p) (λ t. pendings_go t y ps)
+pendings_go s y (p ∷ ps) = and_then (pending_goes s y p.0 p.1) (λ t. pendings_go t y ps)
 
 abbrev pub pending_part : BrickState → NodeNo → BrickTurn
-pending_part s y = pendings_go s y s.locks.pending
+pending_part s y = pendings_go s y (numbered s.locks.pending)
 
 -- Notice: the node is known, then the order, the resolvings, the deferred letters and the pending transactions go on
 abbrev pub notice_row : BrickState → NodeNo → BrickTurn

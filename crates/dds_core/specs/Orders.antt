@@ -1,5 +1,6 @@
 -- What a brick does for the orders of other bricks.
-use Rattle.std.specs.Prelude.{ℕ, Bool, not, ◌&&◌, ◌<◌, List, [], ◌∷◌, ◌++◌, Option, Some, None, is_some, length, filter, map, take, nat_le, if◌then◌else◌}
+use Rattle.std.specs.Prelude.{ℕ, Bool, not, ◌&&◌, ◌+◌, List, [], ◌∷◌, ◌++◌, Option, Some, None, is_some, length, filter, map, take, nat_le, if◌then◌else◌}
+use Rattle.std.specs.List.{insert}
 use Rattle.std.specs.FinMap.{get, entries}
 use Rattle.dds_base.specs.Name.{Name, covers}
 use Rattle.dds_base.specs.BrickList.{has}
@@ -47,10 +48,14 @@ lease_row s from order (wanted.Leaf leaf) =
 abbrev pub release_row : BrickState → NodeNo → Name → BrickTurn
 release_row s from name = still (releasing s name from)
 
+-- the place of a key among pairs in order of place: that of the first pair that it stands before
+abbrev pub place_for : List Pair → ℕ → ℕ
+place_for [] key = 0
+place_for (p ∷ ps) key = if is_before key p.key then 0 else place_for ps key + 1
+
 -- pairs in order of place, with a pair more
 abbrev pub placed : Pair → List Pair → List Pair
-placed p [] = p ∷ []
-placed p (q ∷ qs) = if is_before p.key q.key then p ∷ q ∷ qs else q ∷ placed p qs
+placed p ps = insert ps (place_for ps p.key) p
 
 -- those of the pairs that lie under a name and after a key, in order of place
 abbrev pub in_order : List Pair → Name → Option ℕ → List Pair → List Pair

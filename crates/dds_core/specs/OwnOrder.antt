@@ -132,13 +132,22 @@ join_order s name via =
     else (if via == s.number || has_node s.known via then answers s answered.NoSource
     else sends (record s { orders = s.orders + 1; order = Some (opens s (task.Join via) name None (via ∷ [])) }) ((via, letter.Lease s.orders (wanted.Name name)) ∷ []))))
 
+-- the open order of a split
+abbrev pub new_split : BrickState → Leaf → OpenOrder
+new_split s leaf = opens s task.Split leaf.name (Some leaf) (unknown_others leaf.list s.number s.known)
+
+-- leases the leaf to the brick itself and asks every other member
+abbrev pub split_opens : BrickState → Leaf → BrickTurn
+split_opens s leaf =
+    and_then (sends (record (leasing s leaf.name s.number) { orders = s.orders + 1 }) (to_each (unknown_others leaf.list s.number s.known) (letter.Lease s.orders (wanted.Leaf leaf)))) (λ t. leases_on t (new_split s leaf))
+
 abbrev pub split_leaf : BrickState → Leaf → BrickTurn
 split_leaf s leaf =
     if leaf.name.depth == 16 then answers s answered.Deepest
     else (if is_worn leaf then answers s answered.Worn
     else (if is_some (leased s.locks.leases leaf.name) then answers s (answered.Refused (met.Lease s.number))
     else (if any_under s.locks.pending leaf.name then answers s (answered.Refused (met.Lock s.number))
-    else and_then (sends (record (leasing s leaf.name s.number) { orders = s.orders + 1 }) (to_each (unknown_others leaf.list s.number s.known) (letter.Lease s.orders (wanted.Leaf leaf)))) (λ t. leases_on t (opens s task.Split leaf.name (Some leaf) (unknown_others leaf.list s.number s.known))))))
+    else split_opens s leaf)))
 
 abbrev pub split_named : BrickState → Option Leaf → BrickTurn
 split_named s None = answers s answered.NotServing
@@ -150,12 +159,20 @@ split_order s name =
     if s.stopped then answers s answered.Stopped
     else (if is_some s.order then answers s answered.OrderOpen else split_named s (get s.leaves name))
 
+-- the order with its leaf, which asks every other member
+abbrev pub widened : BrickState → OpenOrder → NodeNo → Leaf → OpenOrder
+widened s o from leaf =
+    record o { leaf = Some leaf; asked = o.asked ++ unknown_others leaf.list from s.known; waiting = o.waiting ++ unknown_others leaf.list from s.known }
+
+abbrev pub fixed : BrickState → OpenOrder → NodeNo → Leaf → BrickTurn
+fixed s o from leaf =
+    and_then (sends s (to_each (unknown_others leaf.list from s.known) (letter.Lease o.number (wanted.Leaf leaf)))) (λ t. leases_on t (widened s o from leaf))
+
 -- a join's first lease fixes its leaf, unless that is worn or its group is full, and it asks every other member
 abbrev pub fixes : BrickState → OpenOrder → NodeNo → Leaf → BrickTurn
 fixes s o from leaf =
     if is_worn leaf then ends s o answered.Worn
-    else (if nat_le 8 (length (live leaf.list (has_node s.known))) then ends s o answered.GroupFull
-    else and_then (sends s (to_each (unknown_others leaf.list from s.known) (letter.Lease o.number (wanted.Leaf leaf)))) (λ t. leases_on t (record o { leaf = Some leaf; asked = o.asked ++ unknown_others leaf.list from s.known; waiting = o.waiting ++ unknown_others leaf.list from s.known })))
+    else (if nat_le 8 (length (live leaf.list (has_node s.known))) then ends s o answered.GroupFull else fixed s o from leaf)
 
 abbrev pub granted_join : BrickState → OpenOrder → NodeNo → Leaf → Option Leaf → BrickTurn
 granted_join s o from leaf None = fixes s o from leaf
@@ -165,24 +182,37 @@ granted_join s o from leaf (Some fixed) = leases_on s o
 abbrev pub with_grant : OpenOrder → NodeNo → OpenOrder
 with_grant o from = record o { waiting = without o.waiting from; granted = o.granted ++ from ∷ [] }
 
-abbrev pub granted_to : BrickState → OpenOrder → NodeNo → Leaf → Task → BrickTurn
-granted_to s o from leaf (task.Join via) =
-    if same_name leaf.name o.name && not (has leaf.list s.number) then granted_join s (with_grant o from) from leaf o.leaf else still s
-granted_to s o from leaf task.Split = leases_on s (with_grant o from)
+-- an order takes a grant while it leases; a join takes none of another name's leaf, nor of a leaf that lists the brick
+abbrev pub is_leasing : OrderPhase → Bool
+is_leasing Leasing = true
+is_leasing (Copying source) = false
+is_leasing (Installing made) = false
 
--- a letter does something to the open order only with its number and in its phase
-abbrev pub at_order : BrickState → ℕ → (OpenOrder → BrickTurn) → Option OpenOrder → BrickTurn
-at_order s number row None = still s
-at_order s number row (Some o) = if o.number == number then row o else still s
+abbrev pub takes_grant : ℕ → Leaf → OpenOrder → Bool
+takes_grant me leaf o =
+    is_leasing o.phase && (not (is_join o.task) || (same_name leaf.name o.name && not (has leaf.list me)))
 
-abbrev pub granted_in : BrickState → OpenOrder → NodeNo → Leaf → OrderPhase → BrickTurn
-granted_in s o from leaf Leasing = granted_to s o from leaf o.task
-granted_in s o from leaf (Copying source) = still s
-granted_in s o from leaf (Installing made) = still s
+abbrev pub grants : BrickState → OpenOrder → NodeNo → Leaf → Task → BrickTurn
+grants s o from leaf (task.Join via) = granted_join s o from leaf o.leaf
+grants s o from leaf task.Split = leases_on s o
 
--- Granted: a member gave its lease. A join takes no grant of another name's leaf, nor of a leaf that lists itself.
+-- a letter does something to the open order only with its number and where the order takes it
+abbrev pub is_at : ℕ → (OpenOrder → Bool) → Option OpenOrder → Bool
+is_at number test None = false
+is_at number test (Some o) = o.number == number && test o
+
+-- the order is taken out of the brick, and the row puts it back while it stays open
+abbrev pub with_order : BrickState → (BrickState → OpenOrder → BrickTurn) → Option OpenOrder → BrickTurn
+with_order s row None = still s
+with_order s row (Some o) = row (record s { order = None }) o
+
+abbrev pub at_order : BrickState → ℕ → (OpenOrder → Bool) → (BrickState → OpenOrder → BrickTurn) → BrickTurn
+at_order s number test row = if is_at number test s.order then with_order s row s.order else still s
+
+-- Granted: a member gave its lease
 abbrev pub granted_row : BrickState → NodeNo → ℕ → Leaf → BrickTurn
-granted_row s from number leaf = at_order s number (λ o. granted_in s o from leaf o.phase) s.order
+granted_row s from number leaf =
+    at_order s number (takes_grant s.number leaf) (λ t o. grants t (with_grant o from) from leaf o.task)
 
 -- what an order met at a member
 abbrev pub met_of : Refusal → NodeNo → Met
@@ -190,14 +220,10 @@ met_of refusal.Lease from = met.Lease from
 met_of refusal.Lock from = met.Lock from
 met_of (refusal.Stale leaf) from = met.Stale from
 
-abbrev pub refused_in : BrickState → OpenOrder → NodeNo → Refusal → OrderPhase → BrickTurn
-refused_in s o from r Leasing = ends s o (answered.Refused (met_of r from))
-refused_in s o from r (Copying source) = still s
-refused_in s o from r (Installing made) = still s
-
--- LeaseRefused: the order ends
+-- LeaseRefused, while leasing: the order ends
 abbrev pub lease_refused_row : BrickState → NodeNo → ℕ → Refusal → BrickTurn
-lease_refused_row s from number r = at_order s number (λ o. refused_in s o from r o.phase) s.order
+lease_refused_row s from number r =
+    at_order s number (λ o. is_leasing o.phase) (λ t o. ends t o (answered.Refused (met_of r from)))
 
 -- the pairs are the name's, their places are after the last one copied, and there is room for them
 abbrev pub starts_after : Option ℕ → List Pair → Bool
@@ -217,25 +243,31 @@ copied_on s o source true = copied_all s o o.leaf
 copied_on s o source false =
     sends (going_on s o) ((source, letter.CopyAsk o.number o.name (last_key None o.copied)) ∷ [])
 
-abbrev pub copy_in : BrickState → OpenOrder → NodeNo → Bool → List Pair → OrderPhase → BrickTurn
-copy_in s o from last pairs Leasing = still s
-copy_in s o from last pairs (Copying source) =
-    if from == source && fits o pairs then copied_on s (record o { copied = o.copied ++ pairs }) source last else still s
-copy_in s o from last pairs (Installing made) = still s
+abbrev pub is_source : NodeNo → OrderPhase → Bool
+is_source from Leasing = false
+is_source from (Copying source) = from == source
+is_source from (Installing made) = false
 
 -- CopyPart: the source's next pairs; the join asks for the pairs after them, or installs its leaf behind the last ones
 abbrev pub copy_part_row : BrickState → NodeNo → ℕ → Bool → List Pair → BrickTurn
-copy_part_row s from number last pairs = at_order s number (λ o. copy_in s o from last pairs o.phase) s.order
+copy_part_row s from number last pairs =
+    at_order s number (λ o. is_source from o.phase && fits o pairs) (λ t o. copied_on t (record o { copied = o.copied ++ pairs }) from last)
 
 -- goes on where no member is waited for any more
 abbrev pub installs_on : BrickState → OpenOrder → Leaf → BrickTurn
 installs_on s o made = if is_none_left o.waiting then finishes s o made else still (going_on s o)
 
-abbrev pub installed_in : BrickState → OpenOrder → NodeNo → OrderPhase → BrickTurn
-installed_in s o from Leasing = still s
-installed_in s o from (Copying source) = still s
-installed_in s o from (Installing made) = installs_on s (record o { waiting = without o.waiting from }) made
+abbrev pub installed_in : BrickState → OpenOrder → OrderPhase → BrickTurn
+installed_in s o Leasing = still s
+installed_in s o (Copying source) = still s
+installed_in s o (Installing made) = installs_on s o made
 
--- Installed: a member serves the leaf that was made
+abbrev pub is_installing : OrderPhase → Bool
+is_installing Leasing = false
+is_installing (Copying source) = false
+is_installing (Installing made) = true
+
+-- Installed, while installing: a member serves the leaf that was made
 abbrev pub installed_row : BrickState → NodeNo → ℕ → BrickTurn
-installed_row s from number = at_order s number (λ o. installed_in s o from o.phase) s.order
+installed_row s from number =
+    at_order s number (λ o. is_installing o.phase) (λ t o. installed_in t (record o { waiting = without o.waiting from }) o.phase)

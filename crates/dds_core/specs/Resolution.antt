@@ -1,7 +1,7 @@
 -- How bricks resolve a transaction whose library stopped. The one resolver is the first member of its list that hasn't
 -- stopped: it commits where a live member has committed or all live members are prepared, and aborts where one never
 -- prepared or has aborted.
-use Rattle.std.specs.Prelude.{ℕ, Bool, true, false, not, ◌==◌, ◌&&◌, ◌||◌, List, [], ◌∷◌, ◌++◌, Option, Some, None, find, take_while, if◌then◌else◌}
+use Rattle.std.specs.Prelude.{ℕ, Bool, true, false, not, ◌==◌, ◌&&◌, ◌||◌, List, [], ◌∷◌, ◌++◌, Option, Some, None, find, if◌then◌else◌}
 use Rattle.std.specs.List.{list_any, list_all}
 use Rattle.dds_base.specs.NodeSet.{has_node}
 use Rattle.dds_base.specs.BrickList.{has}
@@ -25,7 +25,8 @@ use Rattle.dds_core.specs.declared.brick_state.Resolving.{Resolving}
 
 -- the members before one, all of them where it isn't one
 abbrev pub before : List ℕ → ℕ → List ℕ
-before list member = take_while (λ n. not (n == member)) list
+before [] member = []
+before (n ∷ ns) member = if n == member then [] else n ∷ before ns member
 
 -- a transaction is ready for a member: its library and all members before that one are known to have stopped
 abbrev pub is_ready : NodeSet → Txn → List ℕ → ℕ → Bool
@@ -106,13 +107,16 @@ query_row s from txn list =
     if is_ready s.known txn list from then sends s ((from, letter.Status txn (status s.locks txn)) ∷ [])
     else defers s from Query txn list
 
--- the resolving of the transaction with what a member told, out of the list and then on
-abbrev pub status_heard : BrickState → NodeNo → TxnStatus → Option Resolving → BrickTurn
-status_heard s from st None = still s
-status_heard s from st (Some r) =
-    if has r.waiting from then resolves_on (record s { resolving = without_first (is_of r.txn) s.resolving }) (unwaited (heard r st) from)
-    else still s
+-- the resolving, where it waits for this member
+abbrev pub waiting_for : NodeNo → Option Resolving → Option Resolving
+waiting_for from None = None
+waiting_for from (Some r) = if has r.waiting from then Some r else None
+
+abbrev pub status_heard : BrickState → NodeNo → Txn → TxnStatus → Option Resolving → BrickTurn
+status_heard s from txn st None = still s
+status_heard s from txn st (Some r) =
+    resolves_on (record s { resolving = without_first (is_of txn) s.resolving }) (unwaited (heard r st) from)
 
 -- Status: a member that is waited for tells how far it is
 abbrev pub status_row : BrickState → NodeNo → Txn → TxnStatus → BrickTurn
-status_row s from txn st = status_heard s from st (find (is_of txn) s.resolving)
+status_row s from txn st = status_heard s from txn st (waiting_for from (find (is_of txn) s.resolving))

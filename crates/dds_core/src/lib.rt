@@ -4,7 +4,15 @@
 
 pub mod brick_state;
 pub mod calls;
+pub mod finishing;
+pub mod going_on;
 pub mod library_state;
 pub mod nodes;
+pub mod notice;
+pub mod orders;
+pub mod own_letters;
+pub mod own_order;
 pub mod refusal;
+pub mod resolution;
+pub mod take;
 pub mod turn;

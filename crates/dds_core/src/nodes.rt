@@ -107,3 +107,17 @@ pub fn copy(alloc: Global, nodes: &[NodeNo]) -> Result<NodeList, Memory>
     }
     Ok(list)
 }
+
+/// The nodes as a replica group. It answers `Memory` too where they are none.
+pub fn group(alloc: Global, nodes: &[NodeNo]) -> Result<BrickList, Memory>
+    ensures { IfOk result (λ list. list ≡ nodes.now) }
+{
+    let mut numbers = Vec::new(alloc);
+    for node in nodes {
+        numbers.push(node.number())?;
+    }
+    match BrickList::of(numbers.as_slice()) {
+        Some(list) => Ok(list),
+        None => Err(Memory),
+    }
+}
