@@ -2,6 +2,7 @@
 //! row, and a function that equals it.
 #![tactic(auto)]
 
+pub mod brick;
 pub mod brick_state;
 pub mod calls;
 pub mod finishing;

@@ -1,0 +1,127 @@
+//! What a brick does: a letter or an order.
+
+ghost use Rattle.std.specs.Prelude.{◌≡◌, IfOk, OnOk};
+ghost use Rattle.dds_core.specs.Brick.{live_brick_turn, brick_turn, brick_input};
+
+use crate::brick_state::BrickState;
+use crate::calls::{abort, commit, get, map_ask, prepare};
+use crate::notice::notice;
+use crate::orders::{copy_ask, install, lease, release};
+use crate::own_letters::{copy_part, granted, installed, lease_refused};
+use crate::own_order::{join, split};
+use crate::resolution::{help, outcome, query, status};
+use crate::take::take;
+use crate::turn::CoreTurn;
+use dds_base::memory::Memory;
+use dds_base::number::NodeNo;
+use dds_base::op::Order;
+use dds_base::pending::Pending;
+use dds_letters::letter::Letter;
+use std::alloc::Global;
+
+/// What a letter does at a brick: nothing at a stopped one. After `Memory` nothing is said of the state. Where a step
+/// would need a number above 2^64 - 1, or a leaf that can't be made, it answers `Memory` too; no run comes there.
+pub fn brick_turn(
+    alloc: Global,
+    state: &mut BrickState,
+    from: NodeNo,
+    letter: &Letter,
+) -> Result<CoreTurn, Memory>
+    ensures state { OnOk result (state.new ≡ (brick_turn state.old from letter.now).state) }
+    ensures out { IfOk result (λ turn. turn ≡ (brick_turn state.old from letter.now).out) }
+{
+    if state.stopped {
+        return Ok(CoreTurn::new(alloc));
+    }
+    live_brick_turn(alloc, state, from, letter)
+}
+
+fn live_brick_turn(
+    alloc: Global,
+    state: &mut BrickState,
+    from: NodeNo,
+    letter: &Letter,
+) -> Result<CoreTurn, Memory>
+    ensures state { OnOk result (state.new ≡ (live_brick_turn state.old from letter.now).state) }
+    ensures out { IfOk result (λ turn. turn ≡ (live_brick_turn state.old from letter.now).out) }
+{
+    match letter {
+        Letter::Get {
+            txn,
+            caller: _,
+            call: _,
+            key,
+            name,
+            stamp,
+        } => get(alloc, state, from, *txn, *key, *name, *stamp),
+        Letter::Prepare {
+            txn,
+            caller,
+            call,
+            below,
+            name,
+            stamp,
+            list,
+            op,
+        } => {
+            let pending = Pending {
+                txn: *txn,
+                caller: *caller,
+                call: *call,
+                op: op.copy()?,
+                list: *list,
+            };
+            prepare(alloc, state, from, pending, *below, *name, *stamp)
+        }
+        Letter::Commit { txn } => commit(alloc, state, from, *txn),
+        Letter::Abort { txn } => abort(alloc, state, from, *txn),
+        Letter::Push { leaf } => {
+            take(state, leaf)?;
+            Ok(CoreTurn::new(alloc))
+        }
+        Letter::MapAsk {
+            txn,
+            caller: _,
+            call: _,
+            key,
+        } => map_ask(alloc, state, from, *txn, *key),
+        Letter::Help { txn, list } => help(alloc, state, from, *txn, list),
+        Letter::Query { txn, list } => query(alloc, state, from, *txn, list),
+        Letter::Status { txn, status: told } => status(alloc, state, from, *txn, *told),
+        Letter::Outcome { txn, commit } => outcome(alloc, state, *txn, *commit),
+        Letter::Lease { order, what } => lease(alloc, state, from, *order, what),
+        Letter::Granted { order, leaf } => granted(alloc, state, from, *order, leaf),
+        Letter::LeaseRefused { order, refusal } => {
+            lease_refused(alloc, state, from, *order, refusal)
+        }
+        Letter::Release { order: _, name } => {
+            release(state, from, *name);
+            Ok(CoreTurn::new(alloc))
+        }
+        Letter::CopyAsk { order, name, after } => {
+            copy_ask(alloc, state, from, *order, *name, *after)
+        }
+        Letter::CopyPart { order, last, pairs } => {
+            copy_part(alloc, state, from, *order, *last, pairs.as_slice())
+        }
+        Letter::Install { order, leaf } => install(alloc, state, from, *order, leaf),
+        Letter::Installed { order, name: _ } => installed(alloc, state, from, *order),
+        Letter::Notice => notice(alloc, state, from),
+        _ => Ok(CoreTurn::new(alloc)),
+    }
+}
+
+/// What an order does at the brick that it names. After `Memory` nothing is said of the state.
+pub fn brick_input(alloc: Global, state: &mut BrickState, order: &Order) -> Result<CoreTurn, Memory>
+    ensures state { OnOk result (state.new ≡ (brick_input state.old order.now).state) }
+    ensures out { IfOk result (λ turn. turn ≡ (brick_input state.old order.now).out) }
+{
+    match order {
+        Order::Join {
+            brick: _,
+            name,
+            via,
+        } => join(alloc, state, *name, *via),
+        Order::Split { brick: _, name } => split(alloc, state, *name),
+    }
+}
