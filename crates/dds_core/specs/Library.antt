@@ -30,34 +30,30 @@ use Rattle.dds_letters.specs.declared.refusal.Refusal.TheVariants as refusal
 use Rattle.dds_trie.specs.Trie.{LeafMap, put}
 use Rattle.dds_core.specs.Turn.{to_each, without, is_none_left, unknown}
 use Rattle.dds_core.specs.Refusal.{leaf_for}
+use Rattle.dds_core.specs.declared.library_state.Desk.{Desk}
 use Rattle.dds_core.specs.declared.library_state.OpenCall.{OpenCall}
 use Rattle.dds_core.specs.declared.library_state.Phase.{Phase}
 use Rattle.dds_core.specs.declared.library_state.Phase.TheVariants.{Getting, Preparing, Committing, Aborting, Asking}
 use Rattle.dds_core.specs.declared.library_state.Request.{Request}
 use Rattle.dds_core.specs.declared.library_state.TxnNumbers.{TxnNumbers}
+use Rattle.dds_core.specs.declared.library_state.Went.{Went}
 
--- what one call works with: the library's map, the nodes known to have stopped, and the attempts' numbers
-pub record Desk : Type 0 where
-  pub map : LeafMap
-  pub known : NodeSet
-  pub numbers : TxnNumbers
-
--- what happens to one call: the desk after it, the letters, and the call while it stays open, or its reply
+-- what happens to one call: the desk after it, and what it gives
 pub record CallTurn : Type 0 where
   pub desk : Desk
-  pub letters : List (NodeNo × Letter)
-  pub call : Option OpenCall
-  pub reply : Option Reply
+  pub went : Went
 
+-- the call is answered
 abbrev pub replies : Desk → Reply → CallTurn
-replies d r = record { desk = d; letters = []; call = None; reply = Some r }
+replies d r = record { desk = d; went = record { letters = []; call = None; reply = Some r } }
 
+-- the call stays open
 abbrev pub stays : Desk → List (NodeNo × Letter) → OpenCall → CallTurn
-stays d ls c = record { desk = d; letters = ls; call = Some c; reply = None }
+stays d ls c = record { desk = d; went = record { letters = ls; call = Some c; reply = None } }
 
 -- a turn with letters before its own
 abbrev pub behind : List (NodeNo × Letter) → CallTurn → CallTurn
-behind ls t = record t { letters = ls ++ t.letters }
+behind ls t = record t { went = record t.went { letters = ls ++ t.went.letters } }
 
 -- the next attempt
 abbrev pub next_txn : Desk → Txn
@@ -101,9 +97,12 @@ abbrev pub update_begins : Desk → Request → Leaf → List NodeNo → CallTur
 update_begins d r leaf members =
     stays (counted d) (to_each members (letter.Prepare (next_txn d) r.caller r.call (below d) leaf.name leaf.stamp members r.op)) (record { request = r; txn = next_txn d; phase = Preparing leaf members members })
 
+abbrev pub get_begins : Desk → Request → Leaf → NodeNo → ℕ → CallTurn
+get_begins d r leaf brick key =
+    stays (counted d) ((brick, letter.Get (next_txn d) r.caller r.call key leaf.name leaf.stamp) ∷ []) (record { request = r; txn = next_txn d; phase = Getting leaf brick })
+
 abbrev pub attempt_begins : Desk → Request → Leaf → List NodeNo → Op → CallTurn
-attempt_begins d r leaf members (op.Get key) =
-    stays (counted d) ((got_from members r, letter.Get (next_txn d) r.caller r.call key leaf.name leaf.stamp) ∷ []) (record { request = r; txn = next_txn d; phase = Getting leaf (got_from members r) })
+attempt_begins d r leaf members (op.Get key) = get_begins d r leaf (got_from members r) key
 attempt_begins d r leaf members (op.Put key value) = update_begins d r leaf members
 attempt_begins d r leaf members (op.Remove key) = update_begins d r leaf members
 attempt_begins d r leaf members (op.Swap key expected value) = update_begins d r leaf members
@@ -114,7 +113,7 @@ begins_with d r leaf (m ∷ ms) = attempt_begins d r leaf (m ∷ ms) r.op
 
 -- a map has a leaf for each key, so that None isn't met
 abbrev pub begins_at : Desk → Request → Option Leaf → CallTurn
-begins_at d r None = record { desk = d; letters = []; call = None; reply = None }
+begins_at d r None = record { desk = d; went = record { letters = []; call = None; reply = None } }
 begins_at d r (Some leaf) = begins_with d r leaf (unknown leaf.list d.known)
 
 -- begins an attempt at the live members of the map's leaf for the key; where there are none, asks for a newer map
@@ -141,11 +140,14 @@ repairs d r from theirs (Some mine) =
     if newer mine theirs && not r.pushed then behind ((from, letter.Push mine) ∷ []) (begin d (record r { pushed = true }))
     else (if same_leaf mine theirs then begin d r else begin (adopts d theirs) r)
 
-abbrev pub stale : Desk → Request → NodeNo → Option Leaf → CallTurn
-stale d r from None = ask d r (met.Stale from)
-stale d r from (Some theirs) =
+abbrev pub differs : Desk → Request → NodeNo → Leaf → CallTurn
+differs d r from theirs =
     if r.retries == 3 then replies d (reply.Again (met.Stale from))
     else repairs d (retried r) from theirs (leaf_for d.map (the_key r.op))
+
+abbrev pub stale : Desk → Request → NodeNo → Option Leaf → CallTurn
+stale d r from None = ask d r (met.Stale from)
+stale d r from (Some theirs) = differs d r from theirs
 
 -- a call that a brick refused: answered Again at a lease or a lock, and tried again with a repaired map
 abbrev pub refused : Desk → Request → NodeNo → Refusal → CallTurn

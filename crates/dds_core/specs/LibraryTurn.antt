@@ -10,10 +10,12 @@ use Rattle.dds_base.specs.declared.op.Reply.{Reply}
 use Rattle.dds_letters.specs.declared.letter.Letter.{Letter}
 use Rattle.dds_letters.specs.declared.letter.Letter.TheVariants as letter
 use Rattle.dds_core.specs.Turn.{LibraryTurn, no_out, both, letters_out}
-use Rattle.dds_core.specs.Library.{Desk, CallTurn, begin, got_in, vote_in, applied_in, aborted_in, told_in, notice_in}
+use Rattle.dds_core.specs.Library.{CallTurn, begin, got_in, vote_in, applied_in, aborted_in, told_in, notice_in}
+use Rattle.dds_core.specs.declared.library_state.Desk.{Desk}
 use Rattle.dds_core.specs.declared.library_state.LibraryState.{LibraryState}
 use Rattle.dds_core.specs.declared.library_state.OpenCall.{OpenCall}
 use Rattle.dds_core.specs.declared.library_state.Request.{Request}
+use Rattle.dds_core.specs.declared.library_state.Went.{Went}
 use Rattle.dds_core.specs.declared.turn.CoreTurn.{CoreTurn}
 use Rattle.dds_core.specs.declared.turn.Replied.{Replied}
 use Rattle.dds_core.specs.declared.turn.Replied.TheVariants.{Call}
@@ -42,7 +44,7 @@ answer_of r txn None = []
 answer_of r txn (Some reply) = Call txn r.caller r.call reply ∷ []
 
 -- what one call's turn gives
-abbrev pub given : CallTurn → Request → Txn → CoreTurn
+abbrev pub given : Went → Request → Txn → CoreTurn
 given t r txn = record { letters = t.letters; points = []; replies = answer_of r txn t.reply }
 
 -- a new call
@@ -52,7 +54,7 @@ new_request caller call o = record { caller = caller; call = call; op = o; retri
 -- a call is opened and begins; at a stopped library nothing is done
 abbrev pub input_turn : LibraryState → Request → CallTurn → LibraryTurn
 input_turn s r t =
-    record { state = after_turn s t.desk (s.calls ++ option_to_list t.call); out = given t r (record { library = s.number; number = s.next }) }
+    record { state = after_turn s t.desk (s.calls ++ option_to_list t.went.call); out = given t.went r (record { library = s.number; number = s.next }) }
 
 abbrev pub library_input : LibraryState → ℕ → CallNo → Op → LibraryTurn
 library_input s caller call o =
@@ -69,7 +71,7 @@ put_back others place (Some c) = insert others place c
 
 abbrev pub call_turn : LibraryState → ℕ → OpenCall → CallTurn → LibraryTurn
 call_turn s place c t =
-    record { state = after_turn s t.desk (put_back (remove s.calls place) place t.call); out = given t c.request c.txn }
+    record { state = after_turn s t.desk (put_back (remove s.calls place) place t.went.call); out = given t.went c.request c.txn }
 
 abbrev pub at_call : LibraryState → (Desk → OpenCall → CallTurn) → ℕ → Option OpenCall → LibraryTurn
 at_call s row place None = keeps s
@@ -86,14 +88,14 @@ at_attempt s txn row = at_place s row (call_place s.calls txn)
 -- one call's turn at a notice, among those already treated, which stay open, and those still to be treated
 abbrev pub notice_one : LibraryState → List OpenCall → OpenCall → List OpenCall → CallTurn → LibraryTurn
 notice_one s done c rest t =
-    record { state = after_turn s t.desk (done ++ option_to_list t.call ++ rest); out = given t c.request c.txn }
+    record { state = after_turn s t.desk (done ++ option_to_list t.went.call ++ rest); out = given t.went c.request c.txn }
 
 abbrev pub notice_calls : LibraryState → NodeNo → List OpenCall → List OpenCall → LibraryTurn
 notice_calls s y done [] = keeps s
 notice_calls s y done (c ∷ rest) =
     let t = notice_in (desk_of s (done ++ rest)) c y c.phase in
     let u = notice_one s done c rest t in
-    let v = notice_calls u.state y (done ++ option_to_list t.call) rest in
+    let v = notice_calls u.state y (done ++ option_to_list t.went.call) rest in
     record { state = v.state; out = both u.out v.out }
 
 -- Notice: the node is known, and each open call goes on without it, in order

@@ -2,8 +2,10 @@
 //! row, and a function that equals it.
 #![tactic(auto)]
 
+pub mod attempt;
 pub mod brick;
 pub mod brick_state;
+pub mod call;
 pub mod calls;
 pub mod finishing;
 pub mod going_on;
@@ -14,6 +16,7 @@ pub mod orders;
 pub mod own_letters;
 pub mod own_order;
 pub mod refusal;
+pub mod refused;
 pub mod resolution;
 pub mod take;
 pub mod turn;

@@ -6,7 +6,8 @@ use dds_base::items::Items;
 use dds_base::leaf::Leaf;
 use dds_base::node_set::NodeSet;
 use dds_base::number::{CallNo, CallerNo, NodeNo, TxnNo};
-use dds_base::op::{Met, Op};
+use dds_base::op::{Met, Op, Reply};
+use dds_letters::outbox::Outbox;
 use dds_letters::refusal::Denial;
 use dds_maps::maps::Maps;
 
@@ -73,6 +74,22 @@ pub struct TxnNumbers {
     pub bricks: u8,
     pub next: u64,
     pub below: u64,
+}
+
+/// What one call works with: the library's map, the nodes whose notices it has, and the attempts' numbers.
+#[derive(Drop)]
+pub struct Desk {
+    pub map: Maps,
+    pub known: NodeSet,
+    pub numbers: TxnNumbers,
+}
+
+/// What a step of one call gives: letters, and the call while it stays open, or its reply.
+#[derive(Drop)]
+pub struct Went {
+    pub letters: Outbox,
+    pub call: Option<OpenCall>,
+    pub reply: Option<Reply>,
 }
 
 /// A library. `known` are the nodes whose notices it has, `map` its partition map, which may be stale, `next` the
