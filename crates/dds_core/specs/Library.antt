@@ -247,14 +247,22 @@ abbrev pub committed_without : Desk → OpenCall → Leaf → List NodeNo → Li
 committed_without d c leaf list waiting was =
     if is_none_left waiting then lost_or_applied d c leaf was else stays d [] (record c { phase = Committing leaf list waiting was })
 
--- a notice at one call: where the node was asked or waited for, the call goes on without it
-abbrev pub notice_in : Desk → OpenCall → NodeNo → Phase → CallTurn
-notice_in d c y (Getting leaf brick) = if brick == y then begin d c.request else stays d [] c
-notice_in d c y (Preparing leaf list waiting) =
-    if has waiting y then prepared_without d c y leaf list (without waiting y) else stays d [] c
-notice_in d c y (Committing leaf list waiting was) =
-    if has waiting y then committed_without d c leaf list (without waiting y) was else stays d [] c
-notice_in d c y (Aborting waiting why brick) =
-    if has waiting y then aborted_on d c (without waiting y) why brick else stays d [] c
-notice_in d c y (Asking waiting newest m) =
-    if has waiting y then told_on d c (without waiting y) newest m else stays d [] c
+-- the call waits for the node: it was asked, or its letter is due
+abbrev pub call_concerns : Phase → NodeNo → Bool
+call_concerns (Getting leaf brick) y = brick == y
+call_concerns (Preparing leaf list waiting) y = has waiting y
+call_concerns (Committing leaf list waiting was) y = has waiting y
+call_concerns (Aborting waiting why brick) y = has waiting y
+call_concerns (Asking waiting newest m) y = has waiting y
+
+-- the call goes on without the node
+abbrev pub goes_without : Desk → OpenCall → NodeNo → Phase → CallTurn
+goes_without d c y (Getting leaf brick) = begin d c.request
+goes_without d c y (Preparing leaf list waiting) = prepared_without d c y leaf list (without waiting y)
+goes_without d c y (Committing leaf list waiting was) = committed_without d c leaf list (without waiting y) was
+goes_without d c y (Aborting waiting why brick) = aborted_on d c (without waiting y) why brick
+goes_without d c y (Asking waiting newest m) = told_on d c (without waiting y) newest m
+
+-- a notice at one call: where it waits for the node, it goes on without it
+abbrev pub notice_in : Desk → OpenCall → NodeNo → CallTurn
+notice_in d c y = if call_concerns c.phase y then goes_without d c y c.phase else stays d [] c

@@ -3,7 +3,7 @@
 ghost use Rattle.std.specs.Prelude.{◌≡◌, ◌==◌, ◌++◌, [], ◌∷◌, IfOk, OnOk, Some, None};
 ghost use Rattle.std.specs.List.{list_all};
 ghost use Rattle.dds_base.specs.NodeSet.{has_node};
-ghost use Rattle.dds_core.specs.Library.{stays, got_with, got_in, commits, prepared_on, aborts, vote_counted, vote_in, first_flag, applied_on, applied_in, aborted_on, aborted_in, newer_of, newest_of, told_on, told_in, prepared_without, lost_or_applied, committed_without, notice_in};
+ghost use Rattle.dds_core.specs.Library.{stays, got_with, got_in, commits, prepared_on, aborts, vote_counted, vote_in, first_flag, applied_on, applied_in, aborted_on, aborted_in, newer_of, newest_of, told_on, told_in};
 
 use crate::attempt::{ask, begin, go_on_with, reply, stay};
 use crate::library_state::{Desk, OpenCall, Phase, Request, Went};
@@ -23,7 +23,7 @@ use dds_letters::refusal::{Answer, Ballot, Denial};
 use std::alloc::Global;
 
 /// The call stays as it is.
-fn unchanged(alloc: Global, desk: &Desk, call: OpenCall) -> Went
+pub fn unchanged(alloc: Global, desk: &Desk, call: OpenCall) -> Went
     ensures { result ≡ (stays desk.now [] call).went }
 {
     stay(desk, Outbox::new(alloc), call)
@@ -99,7 +99,7 @@ fn commit(
 }
 
 /// The call with another phase.
-fn in_phase(call: OpenCall, phase: Phase) -> OpenCall
+pub fn in_phase(call: OpenCall, phase: Phase) -> OpenCall
     ensures { result ≡ record call { phase = phase } }
 {
     OpenCall {
@@ -110,7 +110,7 @@ fn in_phase(call: OpenCall, phase: Phase) -> OpenCall
 }
 
 /// Goes on where no vote is waited for any more.
-fn prepare_on(
+pub fn prepare_on(
     alloc: Global,
     desk: &Desk,
     call: OpenCall,
@@ -207,4 +207,174 @@ pub fn vote(
         from,
         vote,
     )
+}
+
+fn applied_on(
+    alloc: Global,
+    desk: &Desk,
+    call: OpenCall,
+    leaf: Leaf,
+    list: BrickList,
+    waiting: NodeList,
+    was: bool,
+) -> Result<Went, Memory>
+    ensures { IfOk result (λ went. went ≡ (applied_on desk.now call leaf list waiting was).went) }
+{
+    if waiting.is_empty() {
+        let answer = reply_with(&call.request.op, was);
+        return Ok(reply(alloc, desk, answer));
+    }
+    let phase = Phase::Committing {
+        leaf,
+        list,
+        waiting,
+        was: Some(was),
+    };
+    Ok(unchanged(alloc, desk, in_phase(call, phase)))
+}
+
+/// `Applied`, while committing: the first flag is kept, and is the reply when all have applied.
+pub fn applied(
+    alloc: Global,
+    desk: &Desk,
+    call: OpenCall,
+    from: NodeNo,
+    flag: bool,
+) -> Result<Went, Memory>
+    ensures { IfOk result (λ went. went ≡ (applied_in desk.now call from flag call.phase).went) }
+{
+    let Phase::Committing {
+        leaf,
+        list,
+        waiting,
+        was,
+    } = &call.phase
+    else {
+        return Ok(unchanged(alloc, desk, call));
+    };
+    let (leaf, list) = (*leaf, *list);
+    let was = first_flag(*was, flag);
+    let waiting = without(alloc, waiting.as_slice(), from)?;
+    applied_on(alloc, desk, call, leaf, list, waiting, was)
+}
+
+/// The flag that was kept, or else this one.
+fn first_flag(was: Option<bool>, flag: bool) -> bool
+    ensures { result ≡ first_flag was flag }
+{
+    match was {
+        None => flag,
+        Some(first) => first,
+    }
+}
+
+pub fn aborted_on(
+    alloc: Global,
+    desk: &mut Desk,
+    call: OpenCall,
+    waiting: NodeList,
+    denial: Denial,
+    brick: NodeNo,
+) -> Result<Went, Memory>
+    ensures desk { OnOk result (desk.new ≡ (aborted_on desk.old call waiting denial brick).desk) }
+    ensures went { IfOk result (λ went. went ≡ (aborted_on desk.old call waiting denial brick).went) }
+{
+    if waiting.is_empty() {
+        return denied(alloc, desk, call.request, brick, &denial);
+    }
+    let phase = Phase::Aborting {
+        waiting,
+        denial,
+        brick,
+    };
+    Ok(unchanged(alloc, desk, in_phase(call, phase)))
+}
+
+/// `Aborted`, while aborting: when all have aborted the call is refused.
+pub fn aborted(alloc: Global, desk: &mut Desk, call: OpenCall, from: NodeNo) -> Result<Went, Memory>
+    ensures desk { OnOk result (desk.new ≡ (aborted_in desk.old call from call.phase).desk) }
+    ensures went { IfOk result (λ went. went ≡ (aborted_in desk.old call from call.phase).went) }
+{
+    let Phase::Aborting {
+        waiting,
+        denial,
+        brick,
+    } = &call.phase
+    else {
+        return Ok(unchanged(alloc, desk, call));
+    };
+    let (denial, brick) = (*denial, *brick);
+    let waiting = without(alloc, waiting.as_slice(), from)?;
+    aborted_on(alloc, desk, call, waiting, denial, brick)
+}
+
+/// The newer of a leaf that was told and the one that was kept.
+fn newest_of(told: Option<Leaf>, kept: Option<Leaf>) -> Option<Leaf>
+    ensures { result ≡ newest_of told kept }
+{
+    match told {
+        None => kept,
+        Some(told) => newer_of(told, kept),
+    }
+}
+
+fn newer_of(told: Leaf, kept: Option<Leaf>) -> Option<Leaf>
+    ensures { result ≡ newer_of told kept }
+{
+    match kept {
+        None => Some(told),
+        Some(kept) => {
+            if newer(&told, &kept) {
+                Some(told)
+            } else {
+                Some(kept)
+            }
+        }
+    }
+}
+
+pub fn told_on(
+    alloc: Global,
+    desk: &mut Desk,
+    call: OpenCall,
+    waiting: NodeList,
+    newest: Option<Leaf>,
+    met: Met,
+) -> Result<Went, Memory>
+    ensures desk { OnOk result (desk.new ≡ (told_on desk.old call waiting newest met).desk) }
+    ensures went { IfOk result (λ went. went ≡ (told_on desk.old call waiting newest met).went) }
+{
+    if waiting.is_empty() {
+        return go_on_with(alloc, desk, call.request, newest, met);
+    }
+    let phase = Phase::Asking {
+        waiting,
+        newest,
+        met,
+    };
+    Ok(unchanged(alloc, desk, in_phase(call, phase)))
+}
+
+/// `MapTell`, while asking: the newest leaf is kept.
+pub fn told(
+    alloc: Global,
+    desk: &mut Desk,
+    call: OpenCall,
+    from: NodeNo,
+    leaf: &Option<Leaf>,
+) -> Result<Went, Memory>
+    ensures desk { OnOk result (desk.new ≡ (told_in desk.old call from leaf.now call.phase).desk) }
+    ensures went { IfOk result (λ went. went ≡ (told_in desk.old call from leaf.now call.phase).went) }
+{
+    let Phase::Asking {
+        waiting,
+        newest,
+        met,
+    } = &call.phase
+    else {
+        return Ok(unchanged(alloc, desk, call));
+    };
+    let (newest, met) = (newest_of(*leaf, *newest), *met);
+    let waiting = without(alloc, waiting.as_slice(), from)?;
+    told_on(alloc, desk, call, waiting, newest, met)
 }
