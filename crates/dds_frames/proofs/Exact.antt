@@ -6,9 +6,9 @@ use Rattle.std.specs.List.{AllByRecursion}
 use Rattle.std.proofs.lemmas.Bool.{eqb-true, ltb-false, le-ltb}
 use Rattle.std.proofs.lemmas.List.{take-append-drop, get_or-drop, drop_at, append-nil}
 use Rattle.byteorder.specs.Endian.{big_number}
-use Rattle.dds_frames.specs.Spelling.{number_bytes}
+use Rattle.dds_frames.specs.Spelling.{AreBytes, number_bytes}
 use Rattle.dds_frames.specs.Reading.{Reading, Kinds, ◌>>=◌, number_at, tested_at, nothing_at, both_at, made, chosen, kind_at}
-use Rattle.dds_frames.proofs.Numbers.{AreBytes, length-number, number-below, number-back, number-again}
+use Rattle.dds_frames.proofs.Numbers.{length-number, number-below, number-back, number-again}
 
 -- the value and the rest that were read: the bytes are the value's and then the rest
 pub record Was {A : Type 0} (Fits : A → Type 0) (spelled : A → List ℕ) (bytes : List ℕ) (x : A) (rest : List ℕ) : Type 0 where

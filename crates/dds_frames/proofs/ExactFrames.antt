@@ -12,13 +12,13 @@ use Rattle.dds_frames.specs.declared.fault.FrameFault.{FrameFault}
 use Rattle.dds_frames.specs.declared.fault.FrameFault.TheVariants.{Short, BadLength, BadTag, BadField}
 use Rattle.dds_frames.specs.declared.tag.Tag.{Tag}
 use Rattle.dds_frames.specs.declared.tag.Tag.TheVariants as tags
-use Rattle.dds_frames.specs.Spelling.{number_bytes}
+use Rattle.dds_frames.specs.Spelling.{AreBytes, number_bytes}
 use Rattle.dds_frames.specs.Tags.{tag_number, tag_among, all_tags, tag_with}
 use Rattle.dds_frames.specs.Letters.{tag_of, field_bytes, IsInRange}
 use Rattle.dds_frames.specs.Reading.{Reading}
 use Rattle.dds_frames.specs.Fields.{letter_at}
 use Rattle.dds_frames.specs.Frame.{frame, Spells, whole, tagged, versioned, framed, decoded, DecodesAs}
-use Rattle.dds_frames.proofs.Numbers.{AreBytes, length-number, number-back, number-again}
+use Rattle.dds_frames.proofs.Numbers.{length-number, number-back, number-again}
 use Rattle.dds_frames.proofs.Exact.{bytes-drop}
 use Rattle.dds_frames.proofs.ExactLetters.{letter_behind, letter_again}
 use Rattle.dds_frames.proofs.Lengths.{fields-short}
@@ -153,7 +153,7 @@ versioned_sound end (v ∷ t ∷ fields) x b e =
     let two : v ≡ 2 = eqb-true v 2 g.0 in
     (r.fits.0, (λ i. two i ∷ tag i ∷ same i) ∙ sym (body-is x.0), w.1)
 
-bytes-take : (n : ℕ) (bytes : List ℕ) → AreBytes bytes → AreBytes (take n bytes)
+pub bytes-take : (n : ℕ) (bytes : List ℕ) → AreBytes bytes → AreBytes (take n bytes)
 bytes-take n bytes b k =
     elim (cases_lt k n) [
       | inl lt ↦ rw (get_or-take n bytes k 0 lt) (b k)

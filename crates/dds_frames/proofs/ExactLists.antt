@@ -10,10 +10,9 @@ use Rattle.dds_base.specs.Place.{is_after, rise_after, last_key}
 use Rattle.dds_base.specs.declared.pair.Pair.{Pair}
 use Rattle.dds_base.proofs.Bricks.{bricks-push}
 use Rattle.dds_frames.specs.Ranges.{IsGroup, IsPair, ArePairs, AreCopied}
-use Rattle.dds_frames.specs.Spelling.{number_bytes, group_bytes, pair_bytes, pairs_bytes}
+use Rattle.dds_frames.specs.Spelling.{AreBytes, number_bytes, group_bytes, pair_bytes, pairs_bytes}
 use Rattle.dds_frames.specs.Reading.{tested_at}
 use Rattle.dds_frames.specs.Parts.{bricks_at, group_at, pair_at, pairs_from, pairs_at}
-use Rattle.dds_frames.proofs.Numbers.{AreBytes}
 use Rattle.dds_frames.proofs.Loops.{last-push}
 use Rattle.dds_frames.proofs.Exact.{Exact, bind_ok, ok_is, tested_exact, ◌&&&◌, made_exact}
 use Rattle.dds_frames.proofs.ExactParts.{value_exact, le-is, le-back}

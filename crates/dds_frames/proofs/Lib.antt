@@ -9,3 +9,4 @@ pub mod Lengths
 pub mod ExactFrames
 pub mod Written
 pub mod Encoded
+pub mod Streams

@@ -1,15 +1,11 @@
 -- A number in some bytes has these bytes, and is read from them again.
-use Rattle.std.proofs.Common.{ℕ, zero, suc, ◌≡◌, ◌+◌, ◌*◌, ◌/◌, ◌%◌, ◌^◌, ◌<◌, ◌≤◌, List, [], ◌∷◌, ◌++◌, length, take, get_or, refl, sym, ◌∙◌, ap, arith}
+use Rattle.std.proofs.Common.{ℕ, zero, suc, ◌≡◌, ◌+◌, ◌*◌, ◌/◌, ◌%◌, ◌^◌, ◌<◌, ◌≤◌, List, [], ◌∷◌, ◌++◌, length, take, refl, sym, ◌∙◌, ap, arith}
 use Rattle.std.specs.Int.{byte_at, bytes_high_first}
 use Rattle.std.proofs.Math.Nat.{mod-eq_of_lt, div-one, pow-succ', mul-add-mod_self_right, mul-add-div, one-le-pow}
 use Rattle.std.proofs.lemmas.Nat.{div-mul-add}
 use Rattle.byteorder.specs.Endian.{big_from, big_number}
 use Rattle.byteorder.specs.Numbers.{big_from-cons, big_from-lt, length-bytes_high_first, big_number-reads_back}
-use Rattle.dds_frames.specs.Spelling.{number_bytes}
-
--- each item is a byte
-abbrev pub AreBytes : List ℕ → Type 0
-AreBytes bytes = (k : ℕ) → get_or bytes k 0 < 256
+use Rattle.dds_frames.specs.Spelling.{AreBytes, number_bytes}
 
 byte-is : (k x : ℕ) → byte_at k x ≡ x / 256 ^ k % 256
 byte-is zero x = ap (λ (y : ℕ). y % 256) (sym (div-one x))

@@ -6,3 +6,4 @@ pub mod Reading
 pub mod Parts
 pub mod Fields
 pub mod Frame
+pub mod Reader

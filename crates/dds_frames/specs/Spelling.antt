@@ -1,5 +1,5 @@
 -- The bytes of each kind of field. All numbers are big-endian.
-use Rattle.std.specs.Prelude.{ℕ, Bool, true, false, List, [], ◌++◌, length, Option, Some, None}
+use Rattle.std.specs.Prelude.{ℕ, Bool, true, false, List, [], ◌++◌, length, Option, Some, None, ◌<◌, get_or}
 use Rattle.std.specs.List.{flat_map}
 use Rattle.byteorder.specs.Endian.{big_bytes}
 use Rattle.dds_base.specs.Number.{Txn, StampOf}
@@ -20,6 +20,10 @@ use Rattle.dds_letters.specs.declared.refusal.Ballot.{Ballot}
 use Rattle.dds_letters.specs.declared.refusal.Ballot.TheVariants.{Yes, No}
 use Rattle.dds_letters.specs.declared.refusal.Wanted.{Wanted}
 use Rattle.dds_letters.specs.declared.refusal.Wanted.TheVariants as wants
+
+-- each item is a byte
+abbrev pub AreBytes : List ℕ → Type 0
+AreBytes bytes = (k : ℕ) → get_or bytes k 0 < 256
 
 -- one field's bytes, and then the others'
 infixr 5 ◌⧺◌

@@ -3,6 +3,7 @@
 ghost use Rattle.std.specs.Prelude.{◌≡◌, ℕ, IfOk, ◌≤◌, ◌+◌, ◌^◌, ◌<◌, length, take, drop};
 ghost use Rattle.dds_frames.specs.Frame.{decoded, framed, versioned, whole, DecodesAs, Spells};
 ghost use Rattle.dds_letters.specs.declared.letter.Letter.{Letter};
+ghost use Rattle.dds_frames.specs.declared.fault.FrameFault.TheVariants.{Short};
 ghost use Rattle.dds_frames.specs.Fields.{letter_at};
 
 use crate::fault::{FieldFault, FrameFault};
@@ -62,7 +63,8 @@ fn versioned(alloc: Global, bytes: &[u8], end: usize) -> Result<(Letter, usize),
 fn framed(alloc: Global, input: &[u8], len: usize) -> Result<(Letter, usize), FrameFault>
     requires long { 4 ≤ length input.now }
     requires number { len < 2 ^ 32 }
-    ensures { DecodesAs result (framed len input.now) }
+    ensures exact { DecodesAs result (framed len input.now) }
+    ensures waits { framed len input.now ≡ Err Short → result ≡ Err Short }
 {
     if len < 2 || len > FRAME_BYTES {
         return Err(FrameFault::BadLength { at: 0 });
@@ -76,7 +78,8 @@ fn framed(alloc: Global, input: &[u8], len: usize) -> Result<(Letter, usize), Fr
 
 #[tactic(auto, unfolding(crate::specs::Frame::decoded))]
 fn read(alloc: Global, input: &[u8]) -> Result<(Letter, usize), FrameFault>
-    ensures { DecodesAs result (decoded input.now) }
+    ensures exact { DecodesAs result (decoded input.now) }
+    ensures waits { decoded input.now ≡ Err Short → result ≡ Err Short }
 {
     if input.len() < 4 {
         return Err(FrameFault::Short);
@@ -88,6 +91,8 @@ fn read(alloc: Global, input: &[u8]) -> Result<(Letter, usize), FrameFault>
 pub fn decode(alloc: Global, input: &[u8]) -> Result<(Letter, usize), FrameFault>
     // Each fault, and where it is.
     ensures exact { DecodesAs result (decoded input.now) }
+    // No memory is needed to see that bytes are missing.
+    ensures waits { decoded input.now ≡ Err Short → result ≡ Err Short }
     // What is read was spelled so.
     ensures spelled { IfOk result (λ read. (read.1 ≤ length input.now) × Spells (take read.1 input.now) read.0) }
     // What is spelled is read, unless memory runs out.

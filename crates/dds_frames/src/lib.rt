@@ -9,6 +9,7 @@ mod fields;
 mod group;
 mod letters;
 mod parts;
+pub mod reader;
 mod refusals;
 mod tag;
 mod writer;

@@ -3,7 +3,7 @@ use Rattle.dds_frames.proofs.ExactFrames.{was-spelled, is-read}
 use Rattle.dds_frames.proofs.decode.decode.Goals as goal
 
 pub returns-clause-spelled : goal.returns-clause-spelled
-returns-clause-spelled c = was-spelled c.args.input.now _ (λ k. omega (arith, c.type_inv.input k)) c.read.ensures
+returns-clause-spelled c = was-spelled c.args.input.now _ (λ k. omega (arith, c.type_inv.input k)) c.read.ensures.exact
 
 pub returns-clause-only : goal.returns-clause-only
-returns-clause-only c = λ letter end within spells. is-read c.args.input.now _ letter end c.read.ensures within spells
+returns-clause-only c = λ letter end within spells. is-read c.args.input.now _ letter end c.read.ensures.exact within spells
