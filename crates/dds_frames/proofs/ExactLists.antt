@@ -1,5 +1,5 @@
 -- Replica groups and the pairs of a copy are exact.
-use Rattle.std.proofs.Common.{ℕ, zero, suc, ◌≡◌, ◌<◌, ◌≤◌, ◌==◌, ◌&&◌, Bool, true, false, not, nat_lt, nat_le, List, [], ◌∷◌, ◌++◌, length, Option, Some, None, Ok, refl, sym, ◌∙◌, ap, subst, arith, append_assoc}
+use Rattle.std.proofs.Common.{Err, ◌^◌, ℕ, zero, suc, ◌≡◌, ◌<◌, ◌≤◌, ◌==◌, ◌&&◌, Bool, true, false, not, nat_lt, nat_le, List, [], ◌∷◌, ◌++◌, length, Option, Some, None, Ok, refl, sym, ◌∙◌, ap, subst, arith, append_assoc}
 use Rattle.std.specs.Prelude.{IsTrue}
 use Rattle.std.specs.List.{flat_map}
 use Rattle.std.proofs.lemmas.Bool.Decides.{nat_tests}
@@ -14,7 +14,7 @@ use Rattle.dds_frames.specs.Spelling.{AreBytes, number_bytes, group_bytes, pair_
 use Rattle.dds_frames.specs.Reading.{tested_at}
 use Rattle.dds_frames.specs.Parts.{bricks_at, group_at, pair_at, pairs_from, pairs_at}
 use Rattle.dds_frames.proofs.Loops.{last-push}
-use Rattle.dds_frames.proofs.Exact.{Exact, bind_ok, ok_is, tested_exact, ◌&&&◌, made_exact}
+use Rattle.dds_frames.proofs.Exact.{Exact, bind_ok, ok_is, then_within, rest-within, tested_exact, ◌&&&◌, made_exact}
 use Rattle.dds_frames.proofs.ExactParts.{value_exact, le-is, le-back}
 
 -- ---- bricks
@@ -59,6 +59,18 @@ bricks_sound (suc n) bricks bytes all rest b h e =
       group = w.group;
       left = w.left;
     }
+
+bricks_within : (n : ℕ) (bricks bytes : List ℕ) (left : ℕ) → AreBytes bytes → bricks_at n bricks bytes ≡ Err left → left ≤ length bytes
+unfolding bricks_at
+bricks_within zero bricks bytes left b e = absurd cc
+bricks_within (suc n) bricks bytes left b e =
+    then_within (tested_at 1 (is_other bricks) bytes) (λ brick. bricks_at n (bricks ++ brick.0 ∷ []) brick.1) (length bytes) (λ l h. (tested_exact 1 (is_other bricks)).within bytes l b h)
+    (λ brick l h k.
+    let u = (tested_exact 1 (is_other bricks)).sound bytes brick.0 brick.1 b h in
+    let shorter = rest-within (λ x. IsTrue (is_other bricks x) × (x < 256 ^ 1)) (number_bytes 1) bytes brick.0 brick.1 u in
+    let w = bricks_within n (bricks ++ brick.0 ∷ []) brick.1 l u.left k in
+    omega arith)
+    left e
 
 -- a number that does not stand in a list is none of its members
 none-of : (xs : List ℕ) (b : ℕ) (ys : List ℕ) (x : ℕ) → has (xs ++ b ∷ ys) x ≡ false → (x == b) ≡ false
@@ -115,6 +127,14 @@ group_exact = record {
       let e = (tested_exact 1 (λ n. nat_le 1 n && nat_le n 8)).again (length x) (flat_map (number_bytes 1) x ++ rest) (count-back (length x) g.0 g.1, omega (arith, g.1)) in
       let i = bricks_again x [] rest g.2 in
       ap group_at (append_assoc (number_bytes 1 (length x)) (flat_map (number_bytes 1) x) rest) ∙ rw (e, i) refl;
+  within = λ bytes left b e.
+      then_within (tested_at 1 (λ n. nat_le 1 n && nat_le n 8) bytes) (λ n. bricks_at n.0 [] n.1) (length bytes) (λ l h. (tested_exact 1 (λ n. nat_le 1 n && nat_le n 8)).within bytes l b h)
+      (λ n l h k.
+      let u = (tested_exact 1 (λ n. nat_le 1 n && nat_le n 8)).sound bytes n.0 n.1 b h in
+      let shorter = rest-within (λ x. IsTrue (nat_le 1 x && nat_le x 8) × (x < 256 ^ 1)) (number_bytes 1) bytes n.0 n.1 u in
+      let w = bricks_within n.0 [] n.1 l u.left k in
+      omega arith)
+      left e;
 }
 
 -- ---- pairs
@@ -182,6 +202,18 @@ pairs_again (p ∷ new) pairs rest h f =
     let i = pairs_again new (pairs ++ p ∷ []) rest more f.1 in
     ap (pairs_from (suc (length new)) pairs) regrouped ∙ rw (e, i) (ap (λ (y : List Pair). Ok (y, rest)) (append_assoc pairs (p ∷ []) new))
 
+pairs_within : (n : ℕ) (pairs : List Pair) (bytes : List ℕ) (left : ℕ) → AreBytes bytes → pairs_from n pairs bytes ≡ Err left → left ≤ length bytes
+unfolding pairs_from
+pairs_within zero pairs bytes left b e = absurd cc
+pairs_within (suc n) pairs bytes left b e =
+    then_within (pair_at (last_key None pairs) bytes) (λ pair. pairs_from n (pairs ++ pair.0 ∷ []) pair.1) (length bytes) (λ l h. (pair_exact (last_key None pairs)).within bytes l b h)
+    (λ pair l h k.
+    let u = (pair_exact (last_key None pairs)).sound bytes pair.0 pair.1 b h in
+    let shorter = rest-within (λ (p : Pair). IsTrue (is_after (last_key None pairs) p.key) × IsPair p) pair_bytes bytes pair.0 pair.1 u in
+    let w = pairs_within n (pairs ++ pair.0 ∷ []) pair.1 l u.left k in
+    omega arith)
+    left e
+
 pub pairs_exact : Exact AreCopied pairs_bytes pairs_at
 unfolding pairs_at pairs_bytes
 pairs_exact = record {
@@ -201,4 +233,12 @@ pairs_exact = record {
       let e = (tested_exact 2 (λ n. nat_le n 32)).again (length x) (flat_map pair_bytes x ++ rest) (le-back (length x) 32 f.few, omega (arith, f.few)) in
       let i = pairs_again x [] rest f.rise f.each in
       ap pairs_at (append_assoc (number_bytes 2 (length x)) (flat_map pair_bytes x) rest) ∙ rw (e, i) refl;
+  within = λ bytes left b e.
+      then_within (tested_at 2 (λ n. nat_le n 32) bytes) (λ n. pairs_from n.0 [] n.1) (length bytes) (λ l h. (tested_exact 2 (λ n. nat_le n 32)).within bytes l b h)
+      (λ n l h k.
+      let u = (tested_exact 2 (λ n. nat_le n 32)).sound bytes n.0 n.1 b h in
+      let shorter = rest-within (λ x. IsTrue (nat_le x 32) × (x < 256 ^ 2)) (number_bytes 2) bytes n.0 n.1 u in
+      let w = pairs_within n.0 [] n.1 l u.left k in
+      omega arith)
+      left e;
 }

@@ -16,7 +16,7 @@ use Rattle.dds_frames.specs.Ranges.{IsTxn, IsCaller, IsCall, IsWord, IsName, IsS
 use Rattle.dds_frames.specs.Spelling.{number_bytes, flag_bytes, txn_bytes, name_bytes, stamp_bytes, optional_bytes, after_bytes, value_bytes, update_bytes, status_bytes}
 use Rattle.dds_frames.specs.Reading.{Reading, tested_at, number_at, kind_at}
 use Rattle.dds_frames.specs.Parts.{flag_at, flag_kinds, txn_at, caller_at, call_at, name_at, stamp_at, optional_kinds, after_at, value_at, update_at, update_kinds, status_at, status_kinds}
-use Rattle.dds_frames.proofs.Exact.{Was, Exact, bind_ok, guard_ok, bytes-drop, number_exact, tested_exact, both_exact, ◌&&&◌, made_again, made_behind, made_exact, kind_again, kind_alone, kind_sound, kind_behind}
+use Rattle.dds_frames.proofs.Exact.{Was, Exact, bind_ok, guard_ok, guard_err, then_within, bytes-drop, number_exact, tested_exact, both_exact, ◌&&&◌, made_again, made_behind, made_exact, kind_again, kind_alone, kind_exact, kind_behind}
 
 flag_again : (flag : Bool) (rest : List ℕ) → flag_at (flag_bytes flag ++ rest) ≡ Ok (flag, rest)
 unfolding flag_at flag_bytes
@@ -25,10 +25,9 @@ flag_again true rest = kind_alone flag_kinds 1 rest (lit< tt)
 
 pub flag_exact : Exact (λ _. Unit {0}) flag_bytes flag_at
 unfolding flag_at flag_bytes
-flag_exact = record {
-  sound = kind_sound (λ _. Unit {0}) flag_bytes flag_kinds (kind_behind (number_bytes 1 0) false refl tt, (kind_behind (number_bytes 1 1) true refl tt, tt));
-  again = λ x rest f. flag_again x rest;
-}
+flag_exact =
+    kind_exact (λ _. Unit {0}) flag_bytes flag_kinds (kind_behind (number_bytes 1 0) false refl tt, (kind_behind (number_bytes 1 1) true refl tt, tt))
+    (λ x rest f. flag_again x rest)
 
 library-is : (n : ℕ) → IsTrue (nat_le 64 n && nat_lt n 80) → (64 ≤ n) × (n < 80)
 library-is n h = (grind (arith, nat_tests, h), grind (arith, nat_tests, h))
@@ -54,6 +53,7 @@ pub said : {A : Type 0} {fa : A → Type 0} {sa : A → List ℕ} {ra : List ℕ
 said {A} {fa} {sa} {ra} fb exact to from = record {
   sound = λ bytes x rest b e. let w = exact.sound bytes x rest b e in record { whole = w.whole; fits = to x w.fits; left = w.left };
   again = λ x rest f. exact.again x rest (from x f);
+  within = exact.within;
 }
 
 pub caller_exact : Exact IsCaller (number_bytes 1) caller_at
@@ -107,13 +107,12 @@ optional_again {A} {fits} {spelled} {read} exact None rest f = kind_alone (optio
 optional_again {A} {fits} {spelled} {read} exact (Some x) rest f = kind_again (optional_kinds read) 1 (spelled x) rest (lit< tt) ∙ made_again exact Some x rest f
 
 pub optional_exact : {A : Type 0} {fits : A → Type 0} {spelled : A → List ℕ} {read : List ℕ → Reading A} → Exact fits spelled read → Exact (IfThere fits) (optional_bytes spelled) (kind_at (optional_kinds read))
-optional_exact {A} {fits} {spelled} {read} exact = record {
-  sound = kind_sound (IfThere fits) (optional_bytes spelled) (optional_kinds read) (
-    kind_behind {fb = IfThere fits} {sb = optional_bytes spelled} (number_bytes 1 0) None refl tt,
-    (made_behind {fb = IfThere fits} {sb = optional_bytes spelled} (number_bytes 1 1) exact Some (λ a. refl) (λ a f. f), tt),
-  );
-  again = optional_again exact;
-}
+optional_exact {A} {fits} {spelled} {read} exact =
+    kind_exact (IfThere fits) (optional_bytes spelled) (optional_kinds read) (
+      kind_behind {fb = IfThere fits} {sb = optional_bytes spelled} (number_bytes 1 0) None refl tt,
+      (made_behind {fb = IfThere fits} {sb = optional_bytes spelled} (number_bytes 1 1) exact Some (λ a. refl) (λ a f. f), tt),
+    )
+    (optional_again exact)
 
 pub after_exact : Exact (IfThere IsWord) after_bytes after_at
 unfolding after_at after_bytes
@@ -142,6 +141,11 @@ value_exact = record {
       let long : nat_lt (length (x ++ rest)) (length x) ≡ false = le-ltb _ _ (omega (arith, length-append x rest)) in
       let e = (tested_exact 2 (λ n. nat_le n 60000)).again (length x) (x ++ rest) (le-back (length x) 60000 f, omega (arith, f)) in
       ap value_at (append_assoc (number_bytes 2 (length x)) x rest) ∙ rw (e, long, take_at x rest (length x) refl, drop_at x rest (length x) refl) refl;
+  within = λ bytes left b e.
+      then_within (tested_at 2 (λ n. nat_le n 60000) bytes) (λ n. cond (nat_lt (length n.1) n.0) (Err (length bytes)) (Ok (take n.0 n.1, drop n.0 n.1))) (length bytes)
+      (λ l h. (tested_exact 2 (λ n. nat_le n 60000)).within bytes l b h)
+      (λ n l h k. let same : length bytes ≡ l = guard_err (nat_lt (length n.1) n.0) (length bytes) (take n.0 n.1, drop n.0 n.1) l k in omega arith)
+      left e;
 }
 
 update_again : (op : Op) (rest : List ℕ) → IsUpdate op → update_at (update_bytes op ++ rest) ≡ Ok (op, rest)
@@ -156,16 +160,15 @@ update_again (Swap key expected value) rest f =
 
 pub update_exact : Exact IsUpdate update_bytes update_at
 unfolding update_at update_bytes
-update_exact = record {
-  sound = kind_sound IsUpdate update_bytes update_kinds (
-    made_behind {fb = IsUpdate} {sb = update_bytes} (number_bytes 1 1) (word_exact &&& value_exact) (λ (f : ℕ × List ℕ). Put f.0 f.1) (λ a. refl) (λ a f. f),
-    (
-      made_behind {fb = IsUpdate} {sb = update_bytes} (number_bytes 1 2) word_exact Remove (λ a. refl) (λ a f. f),
-      (made_behind {fb = IsUpdate} {sb = update_bytes} (number_bytes 1 3) (word_exact &&& value_exact &&& value_exact) (λ (f : ℕ × (List ℕ × List ℕ)). Swap f.0 f.1.0 f.1.1) (λ a. refl) (λ a f. f), tt),
-    ),
-  );
-  again = update_again;
-}
+update_exact =
+    kind_exact IsUpdate update_bytes update_kinds (
+      made_behind {fb = IsUpdate} {sb = update_bytes} (number_bytes 1 1) (word_exact &&& value_exact) (λ (f : ℕ × List ℕ). Put f.0 f.1) (λ a. refl) (λ a f. f),
+      (
+        made_behind {fb = IsUpdate} {sb = update_bytes} (number_bytes 1 2) word_exact Remove (λ a. refl) (λ a f. f),
+        (made_behind {fb = IsUpdate} {sb = update_bytes} (number_bytes 1 3) (word_exact &&& value_exact &&& value_exact) (λ (f : ℕ × (List ℕ × List ℕ)). Swap f.0 f.1.0 f.1.1) (λ a. refl) (λ a f. f), tt),
+      ),
+    )
+    (update_again)
 
 status_again : (s : TxnStatus) (rest : List ℕ) → status_at (status_bytes s ++ rest) ≡ Ok (s, rest)
 unfolding status_at status_bytes
@@ -176,13 +179,12 @@ status_again status.Aborted rest = kind_alone status_kinds 3 rest (lit< tt)
 
 pub status_exact : Exact (λ _. Unit {0}) status_bytes status_at
 unfolding status_at status_bytes
-status_exact = record {
-  sound = kind_sound (λ _. Unit {0}) status_bytes status_kinds (
-    kind_behind (number_bytes 1 0) status.NotPrepared refl tt,
-    (
-      kind_behind (number_bytes 1 1) status.Prepared refl tt,
-      (kind_behind (number_bytes 1 2) status.Committed refl tt, (kind_behind (number_bytes 1 3) status.Aborted refl tt, tt)),
-    ),
-  );
-  again = λ s rest f. status_again s rest;
-}
+status_exact =
+    kind_exact (λ _. Unit {0}) status_bytes status_kinds (
+      kind_behind (number_bytes 1 0) status.NotPrepared refl tt,
+      (
+        kind_behind (number_bytes 1 1) status.Prepared refl tt,
+        (kind_behind (number_bytes 1 2) status.Committed refl tt, (kind_behind (number_bytes 1 3) status.Aborted refl tt, tt)),
+      ),
+    )
+    (λ s rest f. status_again s rest)

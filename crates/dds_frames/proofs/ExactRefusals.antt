@@ -14,7 +14,7 @@ use Rattle.dds_letters.specs.declared.refusal.Wanted.TheVariants as wants
 use Rattle.dds_frames.specs.Ranges.{IsLeaf, IfThere, IsRefusal, IsDenial, IsAnswer, IsBallot, IsWanted}
 use Rattle.dds_frames.specs.Spelling.{number_bytes, leaf_bytes, maybe_leaf_bytes, refusal_bytes, denial_bytes, value_bytes, answer_bytes, ballot_bytes, name_bytes, wanted_bytes}
 use Rattle.dds_frames.specs.Parts.{leaf_at, maybe_leaf_at, refusal_at, refusal_kinds, denial_at, denial_kinds, answer_at, answer_kinds, ballot_at, ballot_kinds, wanted_at, wanted_kinds}
-use Rattle.dds_frames.proofs.Exact.{Exact, ◌&&&◌, made_again, made_behind, made_exact, kind_again, kind_alone, kind_sound, kind_behind}
+use Rattle.dds_frames.proofs.Exact.{Exact, ◌&&&◌, made_again, made_behind, made_exact, kind_again, kind_alone, kind_exact, kind_behind}
 use Rattle.dds_frames.proofs.ExactParts.{word_exact, name_exact, stamp_exact, optional_exact, value_exact}
 use Rattle.dds_frames.proofs.ExactLists.{group_exact}
 
@@ -40,16 +40,15 @@ refusal_again (refusals.Stale leaf) rest f = kind_again refusal_kinds 3 (maybe_l
 
 pub refusal_exact : Exact IsRefusal refusal_bytes refusal_at
 unfolding refusal_at refusal_bytes
-refusal_exact = record {
-  sound = kind_sound IsRefusal refusal_bytes refusal_kinds (
-    kind_behind {fb = IsRefusal} {sb = refusal_bytes} (number_bytes 1 1) refusals.Lease refl tt,
-    (
-      kind_behind {fb = IsRefusal} {sb = refusal_bytes} (number_bytes 1 2) refusals.Lock refl tt,
-      (made_behind {fb = IsRefusal} {sb = refusal_bytes} (number_bytes 1 3) maybe_leaf_exact refusals.Stale (λ a. refl) (λ a f. f), tt),
-    ),
-  );
-  again = refusal_again;
-}
+refusal_exact =
+    kind_exact IsRefusal refusal_bytes refusal_kinds (
+      kind_behind {fb = IsRefusal} {sb = refusal_bytes} (number_bytes 1 1) refusals.Lease refl tt,
+      (
+        kind_behind {fb = IsRefusal} {sb = refusal_bytes} (number_bytes 1 2) refusals.Lock refl tt,
+        (made_behind {fb = IsRefusal} {sb = refusal_bytes} (number_bytes 1 3) maybe_leaf_exact refusals.Stale (λ a. refl) (λ a f. f), tt),
+      ),
+    )
+    (refusal_again)
 
 denial_again : (x : Denial) (rest : List ℕ) → IsDenial x → denial_at (denial_bytes x ++ rest) ≡ Ok (x, rest)
 unfolding denial_at denial_bytes refusal_bytes
@@ -61,19 +60,18 @@ denial_again denials.Full rest f = kind_alone denial_kinds 4 rest (lit< tt)
 
 pub denial_exact : Exact IsDenial denial_bytes denial_at
 unfolding denial_at denial_bytes refusal_bytes
-denial_exact = record {
-  sound = kind_sound IsDenial denial_bytes denial_kinds (
-    kind_behind {fb = IsDenial} {sb = denial_bytes} (number_bytes 1 1) (denials.Refused refusals.Lease) refl tt,
-    (
-      kind_behind {fb = IsDenial} {sb = denial_bytes} (number_bytes 1 2) (denials.Refused refusals.Lock) refl tt,
+denial_exact =
+    kind_exact IsDenial denial_bytes denial_kinds (
+      kind_behind {fb = IsDenial} {sb = denial_bytes} (number_bytes 1 1) (denials.Refused refusals.Lease) refl tt,
       (
-        made_behind {fb = IsDenial} {sb = denial_bytes} (number_bytes 1 3) maybe_leaf_exact (λ (leaf : Option Leaf). denials.Refused (refusals.Stale leaf)) (λ a. refl) (λ a f. f),
-        (kind_behind {fb = IsDenial} {sb = denial_bytes} (number_bytes 1 4) denials.Full refl tt, tt),
+        kind_behind {fb = IsDenial} {sb = denial_bytes} (number_bytes 1 2) (denials.Refused refusals.Lock) refl tt,
+        (
+          made_behind {fb = IsDenial} {sb = denial_bytes} (number_bytes 1 3) maybe_leaf_exact (λ (leaf : Option Leaf). denials.Refused (refusals.Stale leaf)) (λ a. refl) (λ a f. f),
+          (kind_behind {fb = IsDenial} {sb = denial_bytes} (number_bytes 1 4) denials.Full refl tt, tt),
+        ),
       ),
-    ),
-  );
-  again = denial_again;
-}
+    )
+    (denial_again)
 
 answer_again : (x : Answer) (rest : List ℕ) → IsAnswer x → answer_at (answer_bytes x ++ rest) ≡ Ok (x, rest)
 unfolding answer_at answer_bytes
@@ -83,16 +81,15 @@ answer_again (answers.Refused refusal) rest f = kind_again answer_kinds 2 (refus
 
 pub answer_exact : Exact IsAnswer answer_bytes answer_at
 unfolding answer_at answer_bytes
-answer_exact = record {
-  sound = kind_sound IsAnswer answer_bytes answer_kinds (
-    kind_behind {fb = IsAnswer} {sb = answer_bytes} (number_bytes 1 0) answers.Absent refl tt,
-    (
-      made_behind {fb = IsAnswer} {sb = answer_bytes} (number_bytes 1 1) value_exact answers.Value (λ a. refl) (λ a f. f),
-      (made_behind {fb = IsAnswer} {sb = answer_bytes} (number_bytes 1 2) refusal_exact answers.Refused (λ a. refl) (λ a f. f), tt),
-    ),
-  );
-  again = answer_again;
-}
+answer_exact =
+    kind_exact IsAnswer answer_bytes answer_kinds (
+      kind_behind {fb = IsAnswer} {sb = answer_bytes} (number_bytes 1 0) answers.Absent refl tt,
+      (
+        made_behind {fb = IsAnswer} {sb = answer_bytes} (number_bytes 1 1) value_exact answers.Value (λ a. refl) (λ a f. f),
+        (made_behind {fb = IsAnswer} {sb = answer_bytes} (number_bytes 1 2) refusal_exact answers.Refused (λ a. refl) (λ a f. f), tt),
+      ),
+    )
+    (answer_again)
 
 ballot_again : (x : Ballot) (rest : List ℕ) → IsBallot x → ballot_at (ballot_bytes x ++ rest) ≡ Ok (x, rest)
 unfolding ballot_at ballot_bytes
@@ -101,13 +98,12 @@ ballot_again (No denial) rest f = kind_again ballot_kinds 1 (denial_bytes denial
 
 pub ballot_exact : Exact IsBallot ballot_bytes ballot_at
 unfolding ballot_at ballot_bytes
-ballot_exact = record {
-  sound = kind_sound IsBallot ballot_bytes ballot_kinds (
-    kind_behind {fb = IsBallot} {sb = ballot_bytes} (number_bytes 1 0) Yes refl tt,
-    (made_behind {fb = IsBallot} {sb = ballot_bytes} (number_bytes 1 1) denial_exact No (λ a. refl) (λ a f. f), tt),
-  );
-  again = ballot_again;
-}
+ballot_exact =
+    kind_exact IsBallot ballot_bytes ballot_kinds (
+      kind_behind {fb = IsBallot} {sb = ballot_bytes} (number_bytes 1 0) Yes refl tt,
+      (made_behind {fb = IsBallot} {sb = ballot_bytes} (number_bytes 1 1) denial_exact No (λ a. refl) (λ a f. f), tt),
+    )
+    (ballot_again)
 
 wanted_again : (x : Wanted) (rest : List ℕ) → IsWanted x → wanted_at (wanted_bytes x ++ rest) ≡ Ok (x, rest)
 unfolding wanted_at wanted_bytes
@@ -116,10 +112,9 @@ wanted_again (wants.Leaf leaf) rest f = kind_again wanted_kinds 1 (leaf_bytes le
 
 pub wanted_exact : Exact IsWanted wanted_bytes wanted_at
 unfolding wanted_at wanted_bytes
-wanted_exact = record {
-  sound = kind_sound IsWanted wanted_bytes wanted_kinds (
-    made_behind {fb = IsWanted} {sb = wanted_bytes} (number_bytes 1 0) name_exact wants.Name (λ a. refl) (λ a f. f),
-    (made_behind {fb = IsWanted} {sb = wanted_bytes} (number_bytes 1 1) leaf_exact wants.Leaf (λ a. refl) (λ a f. f), tt),
-  );
-  again = wanted_again;
-}
+wanted_exact =
+    kind_exact IsWanted wanted_bytes wanted_kinds (
+      made_behind {fb = IsWanted} {sb = wanted_bytes} (number_bytes 1 0) name_exact wants.Name (λ a. refl) (λ a f. f),
+      (made_behind {fb = IsWanted} {sb = wanted_bytes} (number_bytes 1 1) leaf_exact wants.Leaf (λ a. refl) (λ a f. f), tt),
+    )
+    (wanted_again)

@@ -10,3 +10,4 @@ pub mod ExactFrames
 pub mod Written
 pub mod Encoded
 pub mod Streams
+pub mod Places

@@ -3,7 +3,7 @@
 ghost use Rattle.std.specs.Prelude.{◌≡◌, ℕ, IfOk, ◌≤◌, ◌+◌, ◌^◌, ◌<◌, length, take, drop};
 ghost use Rattle.dds_frames.specs.Frame.{decoded, framed, versioned, whole, DecodesAs, Spells};
 ghost use Rattle.dds_letters.specs.declared.letter.Letter.{Letter};
-ghost use Rattle.dds_frames.specs.declared.fault.FrameFault.TheVariants.{Short};
+ghost use Rattle.dds_frames.specs.declared.fault.FrameFault.TheVariants.{Short, BadField};
 ghost use Rattle.dds_frames.specs.Fields.{letter_at};
 
 use crate::fault::{FieldFault, FrameFault};
@@ -21,18 +21,17 @@ pub const FRAME_BYTES: usize = 67_108_864;
 
 /// A letter of this kind, whose fields are all of these bytes, in a frame that ends at this place.
 fn whole(alloc: Global, tag: Tag, bytes: &[u8], end: usize) -> Result<(Letter, usize), FrameFault>
+    requires { length bytes.now ≤ end }
     ensures { DecodesAs result (whole end (letter_at tag bytes.now)) }
 {
     let mut fields = Fields::new(bytes);
     match fields.letter(alloc, tag) {
         Err(FieldFault::Memory) => Err(FrameFault::Memory),
-        Err(FieldFault::Refused { left }) => Err(FrameFault::BadField {
-            at: end.saturating_sub(left),
-        }),
+        Err(FieldFault::Refused { left }) => Err(FrameFault::BadField { at: end - left }),
         Ok(letter) => {
             if !fields.is_empty() {
                 return Err(FrameFault::BadField {
-                    at: end.saturating_sub(fields.left()),
+                    at: end - fields.left(),
                 });
             }
             Ok((letter, end))
@@ -43,6 +42,7 @@ fn whole(alloc: Global, tag: Tag, bytes: &[u8], end: usize) -> Result<(Letter, u
 /// The version, the tag and the fields.
 #[tactic(auto, unfolding(crate::specs::Frame::versioned))]
 fn versioned(alloc: Global, bytes: &[u8], end: usize) -> Result<(Letter, usize), FrameFault>
+    requires { length bytes.now ≤ end }
     ensures { DecodesAs result (versioned end bytes.now) }
 {
     match bytes {
@@ -91,6 +91,8 @@ fn read(alloc: Global, input: &[u8]) -> Result<(Letter, usize), FrameFault>
 pub fn decode(alloc: Global, input: &[u8]) -> Result<(Letter, usize), FrameFault>
     // Each fault, and where it is.
     ensures exact { DecodesAs result (decoded input.now) }
+    // A field's fault stands in the frame, behind the tag.
+    ensures place { (at : ℕ) → result ≡ Err (BadField at) → (6 ≤ at) × (at ≤ length input.now) }
     // No memory is needed to see that bytes are missing.
     ensures waits { decoded input.now ≡ Err Short → result ≡ Err Short }
     // What is read was spelled so.

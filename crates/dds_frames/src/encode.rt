@@ -18,7 +18,7 @@ use std::alloc::Global;
 pub fn encode(alloc: Global, letter: &Letter) -> Result<Bytes, Memory>
     ensures { IfOk result (λ bytes. Spells bytes letter.now) }
 {
-    let mut frame = FrameWriter::new(alloc);
+    let mut frame = FrameWriter::new(alloc)?;
     frame.number_4(0)?;
     frame.number_1(VERSION)?;
     frame.number_1(tag_of(letter).number())?;

@@ -16,6 +16,9 @@ use dds_base::value::Value;
 use std::alloc::Global;
 use std::marker::Model;
 
+/// The bytes for which a writer has room at first: those of most letters without a value.
+const ROOM: usize = 64;
+
 /// Bytes that are written at their end.
 #[derive(Drop)]
 pub(crate) struct FrameWriter {
@@ -31,13 +34,12 @@ impl Model for FrameWriter {
 }
 
 impl FrameWriter {
-    /// Takes no memory.
-    pub(crate) fn new(alloc: Global) -> FrameWriter
-        ensures { result ≡ [] }
+    pub(crate) fn new(alloc: Global) -> Result<FrameWriter, Memory>
+        ensures { IfOk result (λ writer. writer ≡ []) }
     {
-        FrameWriter {
-            bytes: BytesMut::new(alloc),
-        }
+        Ok(FrameWriter {
+            bytes: BytesMut::with_capacity(alloc, ROOM)?,
+        })
     }
 
     /// Writes over the first 4 bytes how many bytes follow them.
