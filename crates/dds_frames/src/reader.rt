@@ -1,9 +1,10 @@
 //! Reading letters from a stream that comes in pieces.
 
-ghost use Rattle.std.specs.Prelude.{◌≡◌, ◌≢◌, ◌++◌, List, [], None, Err, Ok, IfSome, OnOk, OnErr};
+ghost use Rattle.std.specs.Prelude.{◌≡◌, ◌≢◌, ◌++◌, List, [], None, Err, Ok, IfOk, IfSome, OnOk, OnErr};
 ghost use Rattle.dds_frames.specs.declared.fault.FrameFault.TheVariants.{Short};
 ghost use Rattle.dds_frames.specs.Spelling.{AreBytes};
-ghost use Rattle.dds_frames.specs.Frame.{decoded};
+ghost use Rattle.dds_frames.specs.Frame.{decoded, frame};
+ghost use Rattle.dds_frames.specs.Letters.{IsInRange};
 ghost use Rattle.dds_frames.specs.Reader.{Held, IsNext, Event, IsReading, AreTold, fed, told};
 
 use crate::decode::decode;
@@ -58,6 +59,10 @@ impl FrameReader {
     /// from then on.
     pub fn next(&mut self) -> Result<Option<Letter>, FrameFault>
         ensures next { IsNext self.old result self.new }
+        // A letter's frame is taken from the front.
+        ensures letter { IfOk result (λ answer. IfSome answer (λ letter. IsInRange letter × (self.old.bytes ≡ frame letter ++ self.new.bytes))) }
+        // None is answered exactly where the bytes are no whole frame yet.
+        ensures none { result ≡ Ok None → decoded self.old.bytes ≡ Err Short }
         ensures waits { decoded self.old.bytes ≡ Err Short → result ≡ Ok None }
         ensures kept { IfSome self.old.fault (λ fault. result ≡ Err fault) }
         ensures never { result ≢ Err Short }
