@@ -1,6 +1,6 @@
 //! Reading the frame at the front of some bytes.
 
-ghost use Rattle.std.specs.Prelude.{◌≡◌, ℕ, IfOk, ◌≤◌, ◌+◌, ◌^◌, ◌<◌, length, take, drop};
+ghost use Rattle.std.specs.Prelude.{◌≡◌, ◌==◌, ◌-◌, if◌then◌else◌, ℕ, IfOk, ◌≤◌, ◌+◌, ◌^◌, ◌<◌, length, take, drop};
 ghost use Rattle.dds_frames.specs.Frame.{decoded, framed, versioned, whole, DecodesAs, Spells};
 ghost use Rattle.dds_letters.specs.declared.letter.Letter.{Letter};
 ghost use Rattle.dds_frames.specs.declared.fault.FrameFault.TheVariants.{Short, BadField};
@@ -19,6 +19,17 @@ pub const VERSION: u8 = 2;
 /// The most bytes that follow a frame's length.
 pub const FRAME_BYTES: usize = 67_108_864;
 
+/// A letter that was read, where no bytes of its frame are left.
+fn all_read(letter: Letter, left: usize, end: usize) -> Result<(Letter, usize), FrameFault>
+    requires { left ≤ end }
+    ensures { result ≡ (if left == 0 then Ok (letter, end) else Err (BadField (end - left))) }
+{
+    if left > 0 {
+        return Err(FrameFault::BadField { at: end - left });
+    }
+    Ok((letter, end))
+}
+
 /// A letter of this kind, whose fields are all of these bytes, in a frame that ends at this place.
 fn whole(alloc: Global, tag: Tag, bytes: &[u8], end: usize) -> Result<(Letter, usize), FrameFault>
     requires { length bytes.now ≤ end }
@@ -28,14 +39,7 @@ fn whole(alloc: Global, tag: Tag, bytes: &[u8], end: usize) -> Result<(Letter, u
     match fields.letter(alloc, tag) {
         Err(FieldFault::Memory) => Err(FrameFault::Memory),
         Err(FieldFault::Refused { left }) => Err(FrameFault::BadField { at: end - left }),
-        Ok(letter) => {
-            if !fields.is_empty() {
-                return Err(FrameFault::BadField {
-                    at: end - fields.left(),
-                });
-            }
-            Ok((letter, end))
-        }
+        Ok(letter) => all_read(letter, fields.left(), end),
     }
 }
 

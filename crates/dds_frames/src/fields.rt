@@ -38,12 +38,6 @@ impl<'a> Fields<'a> {
         self.rest.len()
     }
 
-    pub(crate) fn is_empty(&self) -> bool
-        ensures { result ≡ (length self.now == 0) }
-    {
-        self.rest.is_empty()
-    }
-
     #[tactic(auto, unfolding(crate::specs::Reading::number_at))]
     pub(crate) fn number_1(&mut self) -> Result<u8, FieldFault>
         ensures { ReadsAs result self.new (number_at 1 self.old) }
