@@ -220,7 +220,8 @@ impl Stamp {
     }
 
     pub fn maker(&self) -> u8
-        ensures { result ≡ self.now.maker }
+        ensures value { result ≡ self.now.maker }
+        ensures range { IsTrue (is_maker result) }
     {
         self.maker
     }

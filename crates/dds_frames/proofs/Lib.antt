@@ -1,0 +1,13 @@
+pub mod Loops
+pub mod Numbers
+pub mod Exact
+pub mod ExactParts
+pub mod ExactLists
+pub mod ExactRefusals
+pub mod ExactLetters
+pub mod Lengths
+pub mod ExactFrames
+pub mod Written
+pub mod Encoded
+pub mod Streams
+pub mod Places

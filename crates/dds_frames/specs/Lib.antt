@@ -1,0 +1,9 @@
+pub mod Ranges
+pub mod Spelling
+pub mod Tags
+pub mod Letters
+pub mod Reading
+pub mod Parts
+pub mod Fields
+pub mod Frame
+pub mod Reader
