@@ -4,3 +4,4 @@ pub mod Trace
 pub mod Stands
 pub mod Picking
 pub mod Walk
+pub mod Framed

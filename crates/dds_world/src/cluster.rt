@@ -4,6 +4,7 @@ ghost use Rattle.std.specs.Prelude.{◌≡◌, ◌==◌, ◌+◌, ◌-◌, ◌++
 ghost use Rattle.dds_world.specs.World.{World, numbered, place, link, set_link, outbox};
 ghost use Rattle.dds_world.specs.Turn.{at_brick, at_library, handle, post, call_at, library_at, CanInput, first_receiver};
 
+use crate::framed::Framed;
 use crate::links::Links;
 use crate::queue::Queue;
 use crate::step::Message;
@@ -126,9 +127,10 @@ impl Cluster {
         ensures replies { IfOk result
             (λ happened. happened.replies ≡ (handle self.old node from (link self.old from node)).replies) }
     {
-        let Some(message) = self.take(node, from) else {
+        let Some(framed) = self.take(node, from) else {
             return Ok(Happened::nothing(self.alloc));
         };
+        let message = framed.message(self.alloc)?;
         if node.is_brick() {
             self.brick_handles(node, from, &message.letter)
         } else {
@@ -150,7 +152,8 @@ impl Cluster {
         };
         let to = message.to;
         let receiver = self.place(to);
-        self.links[place].push(receiver, message)?;
+        let framed = Framed::of(self.alloc, message)?;
+        self.links[place].push(receiver, framed)?;
         Ok(Some(to))
     }
 
@@ -173,7 +176,7 @@ impl Cluster {
     }
 
     /// Takes the first message of a link.
-    fn take(&mut self, node: NodeNo, from: NodeNo) -> Option<Message>
+    fn take(&mut self, node: NodeNo, from: NodeNo) -> Option<Framed>
         ensures first { result ≡ slice_get (link self.old from node) 0 }
         ensures rest { OnSome result (self.new ≡ set_link self.old from node (drop 1 (link self.old from node))) }
         ensures none { IfNone result (self.new ≡ self.old) }

@@ -2,6 +2,7 @@
 #![tactic(auto)]
 
 pub mod cluster;
+pub mod framed;
 pub mod links;
 pub mod opening_cluster;
 pub mod queue;

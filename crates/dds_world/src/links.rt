@@ -1,9 +1,9 @@
-//! The links from one node to all nodes, by the receivers' places.
+//! The links from one node to all nodes, by the receivers' places. They hold frames.
 
 ghost use Rattle.std.specs.Prelude.{◌≡◌, ◌==◌, ◌++◌, [], ◌∷◌, length, drop, replicate, slice_get, slice_set, slice_index_or, IfOk, OnOk, OnErr, IfNone};
 
+use crate::framed::Framed;
 use crate::queue::Queue;
-use crate::step::Message;
 use dds_base::memory::Memory;
 use std::alloc::Global;
 use std::marker::Model;
@@ -11,7 +11,7 @@ use std::marker::Model;
 /// A link to each node. A message for a place beyond the last node is dropped.
 #[derive(Drop)]
 pub struct Links {
-    queues: Vec<Queue<Message>>,
+    queues: Vec<Queue<Framed>>,
 }
 
 impl Model for Links {
@@ -34,7 +34,7 @@ impl Links {
         Ok(Links { queues })
     }
 
-    pub fn push(&mut self, place: usize, message: Message) -> Result<(), Memory>
+    pub fn push(&mut self, place: usize, message: Framed) -> Result<(), Memory>
         ensures ok { OnOk result (self.new ≡ slice_set self.old place (slice_index_or self.old place [] ++ message ∷ [])) }
     {
         if place < self.queues.len() {
@@ -44,7 +44,7 @@ impl Links {
     }
 
     /// The first message for a place, if one is there.
-    pub fn pop(&mut self, place: usize) -> Option<Message>
+    pub fn pop(&mut self, place: usize) -> Option<Framed>
         ensures first { result ≡ slice_get (slice_index_or self.old place []) 0 }
         ensures rest { self.new ≡ slice_set self.old place (drop 1 (slice_index_or self.old place [])) }
     {
