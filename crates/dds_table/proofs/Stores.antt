@@ -1,0 +1,228 @@
+-- The tables of a store.
+use Rattle.std.proofs.Common.{ℕ, zero, suc, ◌≡◌, ◌+◌, ◌<◌, ◌≤◌, cond, Bool, true, false, List, [], ◌∷◌, ◌++◌, length, get_or, set, Option, Some, None, refl, sym, ap, subst, ◌∙◌, arith}
+use Rattle.std.specs.Option.{option_map}
+use Rattle.std.proofs.lemmas.Bool.Decides.{nat_tests}
+use Rattle.std.specs.FinMap.{empty, contains_key, len}
+use Rattle.dds_disk.specs.Pages.{Pages, page_at}
+use Rattle.dds_base.specs.Name.{Name, same_name}
+use Rattle.dds_table.specs.Content.{Map, bucket_no, content}
+use Rattle.dds_table.specs.Index.{vacant, table_uses, tables_use, IsIndex, IsTable}
+use Rattle.dds_table.specs.Answers.{Changed, Made, KeepsUsed}
+use Rattle.dds_table.specs.Store.{Named, named, maps_of, place_named, map_named, with_map, AllIndex, AllTables, IsStore, Unless, Holds}
+use Rattle.dds_table.specs.declared.table.Table.{Table}
+use Rattle.dds_table.proofs.Uses.{same-self, bucket-within}
+use Rattle.dds_table.proofs.Chains.{Kept, chain-kept, found-kept}
+use Rattle.dds_table.proofs.Contents.{content-found, content-len}
+use Rattle.dds_table.proofs.Adding.{same-content}
+use Rattle.dds_table.proofs.Slots.{later, before, first-not}
+
+pub unless-false : (b : Bool) (P : Type 0) → b ≡ false → Unless b P → P
+unless-false true P e u = cc
+unless-false false P e u = u
+
+-- a table whose pages didn't change
+pub table-kept : (a b : Pages) (t : Table) → IsTable a t → Kept a b (λ n. table_uses n t) → IsTable b t
+table-kept a b t h k = record {
+  root = let s = same-self t.root in k t.root (omega (arith, s)) ∙ h.root;
+  chains = λ i. chain-kept a b (get_or t.buckets.items i []) (h.chains i) (λ n used. k n (let w = bucket-within n t.buckets.items i in omega (arith, w, used)));
+  len = h.len;
+}
+
+pub content-kept : (a b : Pages) (t : Table) → IsIndex t → IsTable a t → Kept a b (λ n. table_uses n t) → content b t.root ≡ content a t.root
+content-kept a b t x h k = same-content _ _ (λ q.
+    content-found b t q x (table-kept a b t h k)
+    ∙ found-kept a b (get_or t.buckets.items (bucket_no q) []) q (h.chains (bucket_no q)) (λ n used. k n (let w = bucket-within n t.buckets.items (bucket_no q) in omega (arith, w, used)))
+    ∙ sym (content-found a t q x h))
+
+pub index-at : (tables : List Table) (i : ℕ) (t : Table) → AllIndex tables → i < length tables → t ≡ get_or tables i t → IsIndex t
+index-at [] i t h below e = absurd (omega arith)
+index-at (x ∷ xs) zero t h below e = subst IsIndex (sym e) h.0
+index-at (x ∷ xs) (suc i) t h below e = index-at xs i t h.1 (omega arith) e
+
+pub table-at : (a : Pages) (tables : List Table) (i : ℕ) (t : Table) → AllTables a tables → i < length tables → t ≡ get_or tables i t → IsTable a t
+table-at a [] i t h below e = absurd (omega arith)
+table-at a (x ∷ xs) zero t h below e = subst (IsTable a) (sym e) h.0
+table-at a (x ∷ xs) (suc i) t h below e = table-at a xs i t h.1 (omega arith) e
+
+pub uses-at : (n : ℕ) (tables : List Table) (i : ℕ) (t : Table) → i < length tables → t ≡ get_or tables i t → table_uses n t ≤ tables_use n tables
+uses-at n [] i t below e = absurd (omega arith)
+uses-at n (x ∷ xs) zero t below e = let k = ap (table_uses n) e in omega arith
+uses-at n (x ∷ xs) (suc i) t below e = let k = uses-at n xs i t (omega arith) e in omega arith
+
+pub uses-set : (n : ℕ) (tables : List Table) (i : ℕ) (t now : Table) → i < length tables → t ≡ get_or tables i t → tables_use n (set tables i now) + table_uses n t ≡ tables_use n tables + table_uses n now
+uses-set n [] i t now below e = absurd (omega arith)
+uses-set n (x ∷ xs) zero t now below e = let k = ap (table_uses n) e in omega arith
+uses-set n (x ∷ xs) (suc i) t now below e = let k = uses-set n xs i t now (omega arith) e in omega arith
+
+pub index-set : (tables : List Table) (i : ℕ) (now : Table) → AllIndex tables → IsIndex now → AllIndex (set tables i now)
+index-set [] i now h x = tt
+index-set (y ∷ ys) zero now h x = (x, h.1)
+index-set (y ∷ ys) (suc i) now h x = (h.0, index-set ys i now h.1 x)
+
+-- tables whose pages didn't change
+pub all-kept : (a b : Pages) (tables : List Table) → AllIndex tables → AllTables a tables → Kept a b (λ n. tables_use n tables) → AllTables b tables × (maps_of b (named tables) ≡ maps_of a (named tables))
+all-kept a b [] x h k = (tt, refl)
+all-kept a b (t ∷ ts) x h k =
+    let kt : Kept a b (λ n. table_uses n t) = λ n used. k n (omega arith) in
+    let r = all-kept a b ts x.1 h.1 (λ n used. k n (omega arith)) in
+    let c = content-kept a b t x.0 h.0 kt in
+    ((table-kept a b t h.0 kt, r.0), λ i. (t.name, c i) ∷ r.1 i)
+
+names-are : (a b : Name) → same_name a b ≡ true → (a.bits ≡ b.bits) × (a.depth ≡ b.depth)
+names-are a b h = (grind (arith, nat_tests), grind (arith, nat_tests))
+
+pub is-name : (a b : Name) → same_name a b ≡ true → a ≡ b
+is-name a b h = let e = names-are a b h in λ i. record { bits = e.0 i; depth = e.1 i }
+
+-- the table of a name, and its map
+pub name-at : (tables : List Table) (name : Name) (i : ℕ) (t : Table) → place_named (named tables) name ≡ Some i → t ≡ get_or tables i t → t.name ≡ name
+name-at [] name i t h e = cc
+name-at (x ∷ xs) name zero t h e = (elim (same_name x.name name) as (λ u. same_name x.name name ≡ u → cond u (Some 0) (option_map suc (place_named (named xs) name)) ≡ Some 0 → t.name ≡ name) [
+  | true ↦ λ u h. ap (λ (y : Table). y.name) e ∙ is-name x.name name u
+  | false ↦ λ u h. absurd (later (place_named (named xs) name) h)
+]) refl h
+name-at (x ∷ xs) name (suc i) t h e = (elim (same_name x.name name) as (λ u. same_name x.name name ≡ u → cond u (Some 0) (option_map suc (place_named (named xs) name)) ≡ Some (suc i) → t.name ≡ name) [
+  | true ↦ λ u h. absurd (first-not h)
+  | false ↦ λ u h. name-at xs name i t (before (place_named (named xs) name) i h) e
+]) refl h
+
+pub map-at : (a : Pages) (tables : List Table) (name : Name) (i : ℕ) (t : Table) → place_named (named tables) name ≡ Some i → t ≡ get_or tables i t → map_named (maps_of a (named tables)) name ≡ content a t.root
+map-at a [] name i t h e = cc
+map-at a (x ∷ xs) name zero t h e = (elim (same_name x.name name) as (λ u. same_name x.name name ≡ u → cond u (Some 0) (option_map suc (place_named (named xs) name)) ≡ Some 0 → cond u (content a x.root) (map_named (maps_of a (named xs)) name) ≡ content a t.root) [
+  | true ↦ λ u h. ap (λ (y : Table). content a y.root) (sym e)
+  | false ↦ λ u h. absurd (later (place_named (named xs) name) h)
+]) refl h
+map-at a (x ∷ xs) name (suc i) t h e = (elim (same_name x.name name) as (λ u. same_name x.name name ≡ u → cond u (Some 0) (option_map suc (place_named (named xs) name)) ≡ Some (suc i) → cond u (content a x.root) (map_named (maps_of a (named xs)) name) ≡ content a t.root) [
+  | true ↦ λ u h. absurd (first-not h)
+  | false ↦ λ u h. map-at a xs name i t (before (place_named (named xs) name) i h) e
+]) refl h
+
+-- one table was changed, and no page of the others
+record SetAt (a b : Pages) (tables : List Table) (name : Name) (i : ℕ) (now : Table) (m : Map) : Type 0 where
+  pub all : AllTables b (set tables i now)
+  pub maps : maps_of b (named (set tables i now)) ≡ with_map (maps_of a (named tables)) name m
+
+set-at : (a b : Pages) (free : List ℕ) (fresh : ℕ) (tables : List Table) (name : Name) (i : ℕ) (t now : Table) (m : Map) → AllIndex tables → AllTables a tables → i < length tables → t ≡ get_or tables i t → place_named (named tables) name ≡ Some i → now.name ≡ t.name → IsTable b now → content b now.root ≡ m →
+    ((n : ℕ) → vacant n free fresh + tables_use n tables ≤ 1) → ((n : ℕ) → vacant n free fresh ≡ 0 → table_uses n t ≡ 0 → page_at b n ≡ page_at a n) → SetAt a b tables name i now m
+set-at a b free fresh [] name i t now m x h below e p nm tab c single kept = absurd (omega arith)
+set-at a b free fresh (y ∷ ys) name zero t now m x h below e p nm tab c single kept =
+    let r = all-kept a b ys x.1 h.1 (λ n used. kept n (omega (arith, single n, used)) (let k = ap (table_uses n) e in omega (arith, k, single n, used))) in
+    record {
+      all = (tab, r.0);
+      maps = (elim (same_name y.name name) as (λ u. same_name y.name name ≡ u → cond u (Some 0) (option_map suc (place_named (named ys) name)) ≡ Some 0 → (now.name, content b now.root) ∷ maps_of b (named ys) ≡ cond u ((y.name, m) ∷ maps_of a (named ys)) ((y.name, content a y.root) ∷ with_map (maps_of a (named ys)) name m)) [
+        | true ↦ λ u p. let same_names : now.name ≡ y.name = nm ∙ ap (λ (z : Table). z.name) e in λ j. (same_names j, c j) ∷ r.1 j
+        | false ↦ λ u p. absurd (later (place_named (named ys) name) p)
+      ]) refl p;
+    }
+set-at a b free fresh (y ∷ ys) name (suc i) t now m x h below e p nm tab c single kept =
+    let used_t : (n : ℕ) → table_uses n t ≤ tables_use n ys = λ n. uses-at n ys i t (omega arith) e in
+    let ky : Kept a b (λ n. table_uses n y) = λ n used. kept n (omega (arith, single n, used)) (let k = used_t n in omega (arith, k, single n, used)) in
+    let cy = content-kept a b y x.0 h.0 ky in
+    (elim (same_name y.name name) as (λ u. same_name y.name name ≡ u → cond u (Some 0) (option_map suc (place_named (named ys) name)) ≡ Some (suc i) → SetAt a b (y ∷ ys) name (suc i) now m) [
+      | true ↦ λ u p. absurd (first-not p)
+      | false ↦ λ u p.
+          let r = set-at a b free fresh ys name i t now m x.1 h.1 (omega arith) e (before (place_named (named ys) name) i p) nm tab c (λ n. omega (arith, single n)) kept in
+          record {
+            all = (table-kept a b y h.0 ky, r.all);
+            maps = (λ j. (y.name, cy j) ∷ r.maps j) ∙ sym (ap (λ (v : Bool). cond v ((y.name, m) ∷ maps_of a (named ys)) ((y.name, content a y.root) ∷ with_map (maps_of a (named ys)) name m)) u);
+          }
+    ]) refl p
+
+-- a store of which one table was changed
+pub store-changed : (told0 told1 : Option Pages) (free0 free1 : List ℕ) (fresh0 fresh1 : ℕ) (tables new : List Table) (name : Name) (i : ℕ) (t now : Table) (change : Pages → Map) → IsStore told0 free0 fresh0 tables → i < length tables → t ≡ get_or tables i t → place_named (named tables) name ≡ Some i → new ≡ set tables i now → now.name ≡ t.name → IsIndex now →
+    ((n : ℕ) → vacant n free1 fresh1 + table_uses n now ≡ vacant n free0 fresh0 + table_uses n t) → ((a : Pages) → told0 ≡ Some a → IsTable a t → Changed a free0 fresh0 t told1 now (change a)) →
+    (a : Pages) → told0 ≡ Some a → Holds told1 (named new) (with_map (maps_of a (named tables)) name (change a)) × AllTables a tables
+store-changed told0 told1 free0 free1 fresh0 fresh1 tables new name i t now change s below e p n nm x number changed a is =
+    let h = s.stored a is in
+    let w = changed a is (table-at a tables i t h below e) in
+    let r = set-at a w.b free0 fresh0 tables name i t now (change a) s.index h below e p nm w.table w.binds (λ q. let k = s.balance q in omega (arith, k)) w.kept in
+    (record { pages = w.b; is_told = w.is_told; are = ap (λ (ts : List Table). maps_of w.b (named ts)) n ∙ r.maps }, h)
+
+same-pages : (o : Option Pages) (x y : Pages) → o ≡ Some x → o ≡ Some y → x ≡ y
+same-pages o x y e f = cc
+
+none-some : (o : Option Pages) (b : Pages) → o ≡ None → o ≡ Some b → ⊥
+none-some o b e f = cc
+
+pub told-back : (o now : Option Pages) → (o ≡ None → now ≡ None) → (b : Pages) → now ≡ Some b → (a : Pages) × (o ≡ Some a)
+told-back None now h b is = let e = h refl in absurd (none-some now b e is)
+told-back (Some a) now h b is = (a, refl)
+
+-- and it is a store
+pub store-after : (told0 told1 : Option Pages) (free0 free1 : List ℕ) (fresh0 fresh1 : ℕ) (tables new : List Table) (name : Name) (i : ℕ) (t now : Table) (change : Pages → Map) → IsStore told0 free0 fresh0 tables → i < length tables → t ≡ get_or tables i t → place_named (named tables) name ≡ Some i → new ≡ set tables i now → now.name ≡ t.name → IsIndex now →
+    ((n : ℕ) → vacant n free1 fresh1 + table_uses n now ≡ vacant n free0 fresh0 + table_uses n t) → ((a : Pages) → told0 ≡ Some a → IsTable a t → Changed a free0 fresh0 t told1 now (change a)) → (told0 ≡ None → told1 ≡ None) → IsStore told1 free1 fresh1 new
+store-after told0 told1 free0 free1 fresh0 fresh1 tables new name i t now change s below e p n nm x number changed back = record {
+  balance = λ q. let u = uses-set q tables i t now below e in let k = s.balance q in let m : tables_use q new ≡ tables_use q (set tables i now) = ap (tables_use q) n in omega (arith, u, k, number q, m);
+  index = subst AllIndex (sym n) (index-set tables i now s.index x);
+  stored = λ b is.
+      let o = told-back told0 told1 back b is in
+      let h = s.stored o.0 o.1 in
+      let w = changed o.0 o.1 (table-at o.0 tables i t h below e) in
+      let r = set-at o.0 w.b free0 fresh0 tables name i t now (change o.0) s.index h below e p nm w.table w.binds (λ q. let k = s.balance q in omega (arith, k)) w.kept in
+      subst (λ (z : Pages). AllTables z new) (same-pages told1 w.b b w.is_told is) (subst (AllTables w.b) (sym n) r.all);
+}
+
+pub changed-named : (a : Pages) (free : List ℕ) (fresh : ℕ) (t : Table) (told : Option Pages) (now : Table) (tables : List Table) (name : Name) (i : ℕ) (f : Map → Map) → place_named (named tables) name ≡ Some i → t ≡ get_or tables i t → Changed a free fresh t told now (f (content a t.root)) →
+    Changed a free fresh t told now (f (map_named (maps_of a (named tables)) name))
+changed-named a free fresh t told now tables name i f p e w = subst (λ (m : Map). Changed a free fresh t told now (f m)) (sym (map-at a tables name i t p e)) w
+
+pub room-named : (a : Pages) (tables : List Table) (name : Name) (i : ℕ) (t : Table) (key : ℕ) → place_named (named tables) name ≡ Some i → t ≡ get_or tables i t → IsIndex t → IsTable a t → (contains_key (map_named (maps_of a (named tables)) name) key ≡ false → len (map_named (maps_of a (named tables)) name) < 16384) →
+    contains_key (content a t.root) key ≡ false → t.len < 16384
+room-named a tables name i t key p e x tab room new =
+    let m = map-at a tables name i t p e in
+    let r : len (map_named (maps_of a (named tables)) name) < 16384 = room (ap (λ (m : Map). contains_key m key) m ∙ new) in
+    let l = content-len a t x tab in
+    let k : len (map_named (maps_of a (named tables)) name) ≡ len (content a t.root) = ap (λ (m : Map). len m) m in
+    omega (arith, r, l, k)
+
+-- the store's pages after one table was changed
+pub holds-after : (told0 told1 : Option Pages) (free0 free1 : List ℕ) (fresh0 fresh1 : ℕ) (tables : List Table) (name : Name) (i : ℕ) (t now : Table) (m : Map) → IsStore told0 free0 fresh0 tables → i < length tables → t ≡ get_or tables i t → place_named (named tables) name ≡ Some i → now.name ≡ t.name →
+    (a : Pages) → told0 ≡ Some a → Changed a free0 fresh0 t told1 now m → Holds told1 (named (set tables i now)) (with_map (maps_of a (named tables)) name m)
+holds-after told0 told1 free0 free1 fresh0 fresh1 tables name i t now m s below e p nm a is w =
+    let r = set-at a w.b free0 fresh0 tables name i t now m s.index (s.stored a is) below e p nm w.table w.binds (λ q. let k = s.balance q in omega (arith, k)) w.kept in
+    record { pages = w.b; is_told = w.is_told; are = r.maps }
+
+-- a table was added behind the others
+names-push : (tables : List Table) (t : Table) → named (tables ++ t ∷ []) ≡ named tables ++ (t.name, t.root) ∷ []
+names-push [] t = refl
+names-push (x ∷ xs) t = ap (λ (ns : List Named). (x.name, x.root) ∷ ns) (names-push xs t)
+
+maps-push : (a : Pages) (ns : List Named) (n : Named) → maps_of a (ns ++ n ∷ []) ≡ maps_of a ns ++ (n.0, content a n.1) ∷ []
+maps-push a [] n = refl
+maps-push a (x ∷ xs) n = ap (λ (ms : List (Name × Map)). (x.0, content a x.1) ∷ ms) (maps-push a xs n)
+
+uses-push : (n : ℕ) (tables : List Table) (t : Table) → tables_use n (tables ++ t ∷ []) ≡ tables_use n tables + table_uses n t
+uses-push n [] t = omega arith
+uses-push n (x ∷ xs) t = let r = uses-push n xs t in omega arith
+
+index-push : (tables : List Table) (t : Table) → AllIndex tables → IsIndex t → AllIndex (tables ++ t ∷ [])
+index-push [] t h x = (x, tt)
+index-push (y ∷ ys) t h x = (h.0, index-push ys t h.1 x)
+
+all-push : (a : Pages) (tables : List Table) (t : Table) → AllTables a tables → IsTable a t → AllTables a (tables ++ t ∷ [])
+all-push a [] t h x = (x, tt)
+all-push a (y ∷ ys) t h x = (h.0, all-push a ys t h.1 x)
+
+kept-made : (a b : Pages) (told : Option Pages) (free : List ℕ) (fresh : ℕ) (tables : List Table) → IsStore told free fresh tables → KeepsUsed a b free fresh → Kept a b (λ n. tables_use n tables)
+kept-made a b told free fresh tables s k = λ n used. k n (let q = s.balance n in omega (arith, q, used))
+
+pub store-made : (told0 told1 : Option Pages) (free0 free1 : List ℕ) (fresh0 fresh1 : ℕ) (tables new : List Table) (t : Table) → IsStore told0 free0 fresh0 tables → new ≡ tables ++ t ∷ [] → IsIndex t → ((n : ℕ) → vacant n free1 fresh1 + table_uses n t ≡ vacant n free0 fresh0) →
+    ((a : Pages) → told0 ≡ Some a → Made a free0 fresh0 told1 t) → (told0 ≡ None → told1 ≡ None) → IsStore told1 free1 fresh1 new
+store-made told0 told1 free0 free1 fresh0 fresh1 tables new t s e x number made hidden = record {
+  balance = λ n. let u = uses-push n tables t in let k = s.balance n in let m = ap (tables_use n) e in omega (arith, u, k, number n, m);
+  index = subst AllIndex (sym e) (index-push tables t s.index x);
+  stored = λ b is.
+      let o = told-back told0 told1 hidden b is in
+      let w = made o.0 o.1 in
+      let r = all-kept o.0 w.b tables s.index (s.stored o.0 o.1) (kept-made o.0 w.b told0 free0 fresh0 tables s w.kept) in
+      subst (λ (z : Pages). AllTables z new) (same-pages told1 w.b b w.is_told is) (subst (AllTables w.b) (sym e) (all-push w.b tables t r.0 w.table));
+}
+
+pub holds-made : (told0 told1 : Option Pages) (free0 : List ℕ) (fresh0 : ℕ) (tables new : List Table) (t : Table) (name : Name) → IsStore told0 free0 fresh0 tables → new ≡ tables ++ t ∷ [] → t.name ≡ name → (a : Pages) → told0 ≡ Some a → Made a free0 fresh0 told1 t → Holds told1 (named new) (maps_of a (named tables) ++ (name, empty) ∷ [])
+holds-made told0 told1 free0 fresh0 tables new t name s e nm a is w =
+    let r = all-kept a w.b tables s.index (s.stored a is) (kept-made a w.b told0 free0 fresh0 tables s w.kept) in
+    record {
+      pages = w.b;
+      is_told = w.is_told;
+      are = ap (λ (ts : List Table). maps_of w.b (named ts)) e ∙ ap (maps_of w.b) (names-push tables t) ∙ maps-push w.b (named tables) (t.name, t.root) ∙ (λ j. r.1 j ++ (nm j, w.binds j) ∷ []);
+    }

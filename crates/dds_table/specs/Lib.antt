@@ -1,0 +1,4 @@
+pub mod Content
+pub mod Index
+pub mod Answers
+pub mod Store

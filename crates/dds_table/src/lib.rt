@@ -1,0 +1,11 @@
+//! Tables on a disk: each a hash table of chained pages, and a store of tables by their names.
+#![tactic(auto)]
+
+mod change;
+pub mod fault;
+mod pairs;
+mod removal;
+mod space;
+pub mod store;
+mod table;
+mod value;
