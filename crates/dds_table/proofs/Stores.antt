@@ -8,7 +8,7 @@ use Rattle.dds_base.specs.Name.{Name, same_name}
 use Rattle.dds_table.specs.Content.{Map, bucket_no, content}
 use Rattle.dds_table.specs.Index.{vacant, table_uses, tables_use, IsIndex, IsTable}
 use Rattle.dds_table.specs.Answers.{Changed, Made, KeepsUsed}
-use Rattle.dds_table.specs.Store.{Named, named, maps_of, place_named, map_named, with_map, AllIndex, AllTables, IsStore, Unless, Holds}
+use Rattle.dds_table.specs.Store.{Named, named, names, maps_of, place_named, map_named, with_map, AllIndex, AllTables, IsStore, Unless, Holds}
 use Rattle.dds_table.specs.declared.table.Table.{Table}
 use Rattle.dds_table.proofs.Uses.{same-self, bucket-within}
 use Rattle.dds_table.proofs.Chains.{Kept, chain-kept, found-kept}
@@ -226,3 +226,18 @@ holds-made told0 told1 free0 fresh0 tables new t name s e nm a is w =
       is_told = w.is_told;
       are = ap (λ (ts : List Table). maps_of w.b (named ts)) e ∙ ap (maps_of w.b) (names-push tables t) ∙ maps-push w.b (named tables) (t.name, t.root) ∙ (λ j. r.1 j ++ (nm j, w.binds j) ∷ []);
     }
+
+pub named-set : (tables : List Table) (i : ℕ) (t now : Table) → i < length tables → t ≡ get_or tables i t → now.name ≡ t.name → now.root ≡ t.root → named (set tables i now) ≡ named tables
+named-set [] i t now below e nm r = absurd (omega arith)
+named-set (x ∷ xs) zero t now below e nm r =
+    let n : now.name ≡ x.name = nm ∙ ap (λ (z : Table). z.name) e in
+    let k : now.root ≡ x.root = r ∙ ap (λ (z : Table). z.root) e in
+    λ j. (n j, k j) ∷ named xs
+named-set (x ∷ xs) (suc i) t now below e nm r = ap (λ (ns : List Named). (x.name, x.root) ∷ ns) (named-set xs i t now (omega arith) e nm r)
+
+names-all : (tables : List Table) (t : Table) → names (named (tables ++ t ∷ [])) ≡ names (named tables) ++ t.name ∷ []
+names-all [] t = refl
+names-all (x ∷ xs) t = ap (λ (ns : List Name). x.name ∷ ns) (names-all xs t)
+
+pub names-more : (tables new : List Table) (t : Table) (name : Name) → new ≡ tables ++ t ∷ [] → t.name ≡ name → names (named new) ≡ names (named tables) ++ name ∷ []
+names-more tables new t name e nm = ap (λ (ts : List Table). names (named ts)) e ∙ names-all tables t ∙ ap (λ (n : Name). names (named tables) ++ n ∷ []) nm

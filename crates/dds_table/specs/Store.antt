@@ -30,6 +30,9 @@ store_code {D = D} d =
 abbrev pub named : List Table → List Named
 named tables = map (λ table. (table.name, table.root)) tables
 
+abbrev pub names : List Named → List Name
+names tables = map (λ table. table.0) tables
+
 -- the tables with the maps that their pages say
 abbrev pub maps_of : Pages → List Named → List (Name × Map)
 maps_of pages tables = map (λ table. (table.0, content pages table.1)) tables

@@ -29,6 +29,7 @@ pub(crate) fn bind<D: Disk>(
     requires single { (n : ℕ) → vacant n space.old.free.items space.old.fresh + table_uses n table.old ≤ 1 }
     ensures index { OnOk result (IsIndex table.new) }
     ensures name { OnOk result (table.new.name ≡ table.old.name) }
+    ensures root { OnOk result (table.new.root ≡ table.old.root) }
     ensures number { OnOk result ((n : ℕ) → vacant n space.new.free.items space.new.fresh + table_uses n table.new ≡ vacant n space.old.free.items space.old.fresh + table_uses n table.old) }
     ensures told { (a : Pages) → D.pages space.old.cache.disk ≡ Some a → IsTable a table.old → (contains_key (content a table.old.root) key ≡ false → table.old.len < 16384) → OnOk result (Changed a space.old.free.items space.old.fresh table.old (D.pages space.new.cache.disk) table.new (insert (content a table.old.root) key value.now)) }
     ensures was { (a : Pages) → D.pages space.old.cache.disk ≡ Some a → IsTable a table.old → IfOk result (λ was. was ≡ contains_key (content a table.old.root) key) }
@@ -61,6 +62,7 @@ pub(crate) fn unbind<D: Disk>(
     requires single { (n : ℕ) → vacant n space.old.free.items space.old.fresh + table_uses n table.old ≤ 1 }
     ensures index { OnOk result (IsIndex table.new) }
     ensures name { OnOk result (table.new.name ≡ table.old.name) }
+    ensures root { OnOk result (table.new.root ≡ table.old.root) }
     ensures number { OnOk result ((n : ℕ) → vacant n space.new.free.items space.new.fresh + table_uses n table.new ≡ vacant n space.old.free.items space.old.fresh + table_uses n table.old) }
     ensures told { (a : Pages) → D.pages space.old.cache.disk ≡ Some a → IsTable a table.old → OnOk result (Changed a space.old.free.items space.old.fresh table.old (D.pages space.new.cache.disk) table.new (without (content a table.old.root) key)) }
     ensures was { (a : Pages) → D.pages space.old.cache.disk ≡ Some a → IsTable a table.old → IfOk result (λ was. was ≡ contains_key (content a table.old.root) key) }

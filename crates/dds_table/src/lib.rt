@@ -8,4 +8,6 @@ mod removal;
 mod space;
 pub mod store;
 mod table;
+#[cfg(test)]
+mod tests;
 mod value;

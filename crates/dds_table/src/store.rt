@@ -6,7 +6,7 @@ ghost use Rattle.dds_base.specs.Name.{Name, covers, overlaps, same_name};
 ghost use Rattle.dds_base.specs.Outside.{Rose};
 ghost use Rattle.dds_disk.specs.Pages.{Pages};
 ghost use Rattle.dds_table.specs.Answers.{IsNoPage};
-ghost use Rattle.dds_table.specs.Store.{StoreState, named, place_named, has_table, maps_of, map_named, with_map, Holds};
+ghost use Rattle.dds_table.specs.Store.{StoreState, named, names, place_named, has_table, maps_of, map_named, with_map, Holds};
 
 use crate::change::{bind, unbind};
 use crate::fault::TableFault;
@@ -102,9 +102,11 @@ impl<D: Disk> Store<D> {
     pub fn add(&mut self, name: LeafName) -> Result<(), TableFault>
         requires live { self.old.failed ≡ false }
         ensures told { (a : Pages) → D.pages self.old.cache.disk ≡ Some a → OnOk result (Holds (D.pages self.new.cache.disk) self.new.tables (maps_of a self.old.tables ++ (name, empty) ∷ [])) }
+        ensures names { OnOk result (names self.new.tables ≡ names self.old.tables ++ name ∷ []) }
         ensures ok { OnOk result (self.new.failed ≡ false) }
         ensures err { OnErr result (self.new.failed ≡ true) }
         ensures lawful { IfErr result IsNoPage }
+        ensures untold { D.pages self.old.cache.disk ≡ None → D.pages self.new.cache.disk ≡ None }
         ensures rose { IsErrOf result TableFault.Disk → Rose (D.faults self.old.cache.disk) (D.faults self.new.cache.disk) }
         ensures steady { OnOk result (D.faults self.new.cache.disk ≡ D.faults self.old.cache.disk) }
         ensures never_falls { D.faults self.old.cache.disk ≤ D.faults self.new.cache.disk }
@@ -114,6 +116,25 @@ impl<D: Disk> Store<D> {
         push(&mut self.tables, table)?;
         self.failed = false;
         Ok(())
+    }
+
+    /// Whether there is a table of this name.
+    pub fn has(&self, name: LeafName) -> bool
+        ensures { result ≡ has_table self.now.tables name }
+    {
+        find(self.tables.as_slice(), &name).is_some()
+    }
+
+    /// How many pairs a table has. Takes no memory.
+    pub fn len(&self, name: LeafName) -> usize
+        requires live { self.now.failed ≡ false }
+        requires there { IsTrue (has_table self.now.tables name) }
+        ensures told { (a : Pages) → D.pages self.now.cache.disk ≡ Some a → result ≡ size (map_named (maps_of a self.now.tables) name) }
+        ensures most { result ≤ 16384 }
+    {
+        let place = place_in(self.tables.as_slice(), &name);
+        let table = &self.tables[place];
+        table.len as usize
     }
 
     /// The value of a key.
@@ -147,10 +168,12 @@ impl<D: Disk> Store<D> {
         requires covers { IsTrue (covers name key) }
         requires room { (a : Pages) → D.pages self.old.cache.disk ≡ Some a → contains_key (map_named (maps_of a self.old.tables) name) key ≡ false → size (map_named (maps_of a self.old.tables) name) < 16384 }
         ensures told { (a : Pages) → D.pages self.old.cache.disk ≡ Some a → OnOk result (Holds (D.pages self.new.cache.disk) self.new.tables (with_map (maps_of a self.old.tables) name (insert (map_named (maps_of a self.old.tables) name) key value.now))) }
+        ensures tables { OnOk result (self.new.tables ≡ self.old.tables) }
         ensures was { (a : Pages) → D.pages self.old.cache.disk ≡ Some a → IfOk result (λ was. was ≡ contains_key (map_named (maps_of a self.old.tables) name) key) }
         ensures ok { OnOk result (self.new.failed ≡ false) }
         ensures err { OnErr result (self.new.failed ≡ true) }
         ensures lawful { (a : Pages) → D.pages self.old.cache.disk ≡ Some a → IfErr result IsNoPage }
+        ensures untold { D.pages self.old.cache.disk ≡ None → D.pages self.new.cache.disk ≡ None }
         ensures rose { IsErrOf result TableFault.Disk → Rose (D.faults self.old.cache.disk) (D.faults self.new.cache.disk) }
         ensures steady { OnOk result (D.faults self.new.cache.disk ≡ D.faults self.old.cache.disk) }
         ensures never_falls { D.faults self.old.cache.disk ≤ D.faults self.new.cache.disk }
@@ -170,10 +193,12 @@ impl<D: Disk> Store<D> {
         requires live { self.old.failed ≡ false }
         requires there { IsTrue (has_table self.old.tables name) }
         ensures told { (a : Pages) → D.pages self.old.cache.disk ≡ Some a → OnOk result (Holds (D.pages self.new.cache.disk) self.new.tables (with_map (maps_of a self.old.tables) name (without (map_named (maps_of a self.old.tables) name) key))) }
+        ensures tables { OnOk result (self.new.tables ≡ self.old.tables) }
         ensures was { (a : Pages) → D.pages self.old.cache.disk ≡ Some a → IfOk result (λ was. was ≡ contains_key (map_named (maps_of a self.old.tables) name) key) }
         ensures ok { OnOk result (self.new.failed ≡ false) }
         ensures err { OnErr result (self.new.failed ≡ true) }
         ensures lawful { (a : Pages) → D.pages self.old.cache.disk ≡ Some a → IfErr result IsNoPage }
+        ensures untold { D.pages self.old.cache.disk ≡ None → D.pages self.new.cache.disk ≡ None }
         ensures rose { IsErrOf result TableFault.Disk → Rose (D.faults self.old.cache.disk) (D.faults self.new.cache.disk) }
         ensures steady { OnOk result (D.faults self.new.cache.disk ≡ D.faults self.old.cache.disk) }
         ensures never_falls { D.faults self.old.cache.disk ≤ D.faults self.new.cache.disk }

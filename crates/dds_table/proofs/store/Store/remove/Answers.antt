@@ -3,7 +3,7 @@ use Rattle.std.specs.FinMap.{remove as without, contains_key}
 use Rattle.dds_table.specs.Content.{Map}
 use Rattle.dds_table.specs.Store.{named, place_named, maps_of, map_named}
 use Rattle.dds_table.specs.declared.table.Table.{Table}
-use Rattle.dds_table.proofs.Stores.{unless-false, index-at, table-at, uses-at, map-at, changed-named, store-after, holds-after}
+use Rattle.dds_table.proofs.Stores.{named-set, unless-false, index-at, table-at, uses-at, map-at, changed-named, store-after, holds-after}
 use Rattle.dds_table.proofs.store.Store.remove.Goals as goal
 
 pub unbind-requires-clause-index : goal.unbind-requires-clause-index
@@ -57,3 +57,8 @@ returns-clause-was g c = λ a is.
     let tab = table-at a c.self.inside.tables.items c.place_in-place.result c.index_mut.result.now (s.stored a told) (omega (arith, l, c.place_in-place.ensures.within)) c.index_mut.ensures.value in
     c.in-Ok.ensures.was a told tab ∙ ap (λ (m : Map). contains_key m c.args.key) (sym (map-at a c.self.inside.tables.items c.args.name c.place_in-place.result c.index_mut.result.now p c.index_mut.ensures.value))
     ∙ ap (λ s. contains_key (map_named (maps_of a s.tables) c.args.name) c.args.key) c.self.view_is
+
+pub returns-clause-tables : goal.returns-clause-tables
+returns-clause-tables g c =
+    let l = ap length c.as_slice.ensures.value in
+    rw (← c.self.view_is) (named-set c.self.inside.tables.items c.place_in-place.result c.index_mut.result.now _ (omega (arith, l, c.place_in-place.ensures.within)) c.index_mut.ensures.value c.in-Ok.ensures.name c.in-Ok.ensures.root)
