@@ -1,14 +1,19 @@
 -- The tables of a store.
 use Rattle.std.proofs.Common.{ℕ, zero, suc, ◌≡◌, ◌+◌, ◌<◌, ◌≤◌, cond, Bool, true, false, List, [], ◌∷◌, ◌++◌, length, get_or, set, Option, Some, None, refl, sym, ap, subst, ◌∙◌, arith}
-use Rattle.std.specs.Option.{option_map}
+use Rattle.std.proofs.Math.ListN.{length-set}
+use Rattle.std.proofs.Common.{length-append, take}
+use Rattle.std.specs.List.{remove}
+use Rattle.std.proofs.lemmas.List.{take_more}
+use Rattle.std.specs.Option.{option_map, option_to_list}
 use Rattle.std.proofs.lemmas.Bool.Decides.{nat_tests}
 use Rattle.std.specs.FinMap.{empty, contains_key, len}
 use Rattle.dds_disk.specs.Pages.{Pages, page_at}
 use Rattle.dds_base.specs.Name.{Name, same_name}
 use Rattle.dds_table.specs.Content.{Map, bucket_no, content}
-use Rattle.dds_table.specs.Index.{vacant, table_uses, tables_use, IsIndex, IsTable}
+use Rattle.dds_table.specs.Index.{vacant, slot_uses, chain_uses, buckets_use, table_uses, tables_use, IsIndex, IsTable}
+use Rattle.dds_table.specs.declared.table.Slot.{Slot}
 use Rattle.dds_table.specs.Answers.{Changed, Made, KeepsUsed}
-use Rattle.dds_table.specs.Store.{Named, named, names, maps_of, place_named, map_named, with_map, AllIndex, AllTables, IsStore, Unless, Holds}
+use Rattle.dds_table.specs.Store.{Named, named, names, maps_of, place_named, map_named, with_map, without_table, AllIndex, AllTables, IsStore, Unless, Holds}
 use Rattle.dds_table.specs.declared.table.Table.{Table}
 use Rattle.dds_table.proofs.Uses.{same-self, bucket-within}
 use Rattle.dds_table.proofs.Chains.{Kept, chain-kept, found-kept}
@@ -128,16 +133,6 @@ set-at a b free fresh (y ∷ ys) name (suc i) t now m x h below e p nm tab c sin
           }
     ]) refl p
 
--- a store of which one table was changed
-pub store-changed : (told0 told1 : Option Pages) (free0 free1 : List ℕ) (fresh0 fresh1 : ℕ) (tables new : List Table) (name : Name) (i : ℕ) (t now : Table) (change : Pages → Map) → IsStore told0 free0 fresh0 tables → i < length tables → t ≡ get_or tables i t → place_named (named tables) name ≡ Some i → new ≡ set tables i now → now.name ≡ t.name → IsIndex now →
-    ((n : ℕ) → vacant n free1 fresh1 + table_uses n now ≡ vacant n free0 fresh0 + table_uses n t) → ((a : Pages) → told0 ≡ Some a → IsTable a t → Changed a free0 fresh0 t told1 now (change a)) →
-    (a : Pages) → told0 ≡ Some a → Holds told1 (named new) (with_map (maps_of a (named tables)) name (change a)) × AllTables a tables
-store-changed told0 told1 free0 free1 fresh0 fresh1 tables new name i t now change s below e p n nm x number changed a is =
-    let h = s.stored a is in
-    let w = changed a is (table-at a tables i t h below e) in
-    let r = set-at a w.b free0 fresh0 tables name i t now (change a) s.index h below e p nm w.table w.binds (λ q. let k = s.balance q in omega (arith, k)) w.kept in
-    (record { pages = w.b; is_told = w.is_told; are = ap (λ (ts : List Table). maps_of w.b (named ts)) n ∙ r.maps }, h)
-
 same-pages : (o : Option Pages) (x y : Pages) → o ≡ Some x → o ≡ Some y → x ≡ y
 same-pages o x y e f = cc
 
@@ -149,9 +144,10 @@ told-back None now h b is = let e = h refl in absurd (none-some now b e is)
 told-back (Some a) now h b is = (a, refl)
 
 -- and it is a store
-pub store-after : (told0 told1 : Option Pages) (free0 free1 : List ℕ) (fresh0 fresh1 : ℕ) (tables new : List Table) (name : Name) (i : ℕ) (t now : Table) (change : Pages → Map) → IsStore told0 free0 fresh0 tables → i < length tables → t ≡ get_or tables i t → place_named (named tables) name ≡ Some i → new ≡ set tables i now → now.name ≡ t.name → IsIndex now →
-    ((n : ℕ) → vacant n free1 fresh1 + table_uses n now ≡ vacant n free0 fresh0 + table_uses n t) → ((a : Pages) → told0 ≡ Some a → IsTable a t → Changed a free0 fresh0 t told1 now (change a)) → (told0 ≡ None → told1 ≡ None) → IsStore told1 free1 fresh1 new
+pub store-after : {dropped : List Table} {room : ℕ} (told0 told1 : Option Pages) (free0 free1 : List ℕ) (fresh0 fresh1 : ℕ) (tables new : List Table) (name : Name) (i : ℕ) (t now : Table) (change : Pages → Map) → IsStore told0 free0 fresh0 tables dropped room → i < length tables → t ≡ get_or tables i t → place_named (named tables) name ≡ Some i → new ≡ set tables i now → now.name ≡ t.name → IsIndex now →
+    ((n : ℕ) → vacant n free1 fresh1 + table_uses n now ≡ vacant n free0 fresh0 + table_uses n t) → ((a : Pages) → told0 ≡ Some a → IsTable a t → Changed a free0 fresh0 t told1 now (change a)) → (told0 ≡ None → told1 ≡ None) → IsStore told1 free1 fresh1 new dropped room
 store-after told0 told1 free0 free1 fresh0 fresh1 tables new name i t now change s below e p n nm x number changed back = record {
+  room = let l : length (set tables i now) ≡ length tables = length-set {A = Table} _ _ _ in let k = ap length n in omega (arith, l, k, s.room);
   balance = λ q. let u = uses-set q tables i t now below e in let k = s.balance q in let m : tables_use q new ≡ tables_use q (set tables i now) = ap (tables_use q) n in omega (arith, u, k, number q, m);
   index = subst AllIndex (sym n) (index-set tables i now s.index x);
   stored = λ b is.
@@ -176,7 +172,7 @@ room-named a tables name i t key p e x tab room new =
     omega (arith, r, l, k)
 
 -- the store's pages after one table was changed
-pub holds-after : (told0 told1 : Option Pages) (free0 free1 : List ℕ) (fresh0 fresh1 : ℕ) (tables : List Table) (name : Name) (i : ℕ) (t now : Table) (m : Map) → IsStore told0 free0 fresh0 tables → i < length tables → t ≡ get_or tables i t → place_named (named tables) name ≡ Some i → now.name ≡ t.name →
+pub holds-after : {dropped : List Table} {room : ℕ} (told0 told1 : Option Pages) (free0 free1 : List ℕ) (fresh0 fresh1 : ℕ) (tables : List Table) (name : Name) (i : ℕ) (t now : Table) (m : Map) → IsStore told0 free0 fresh0 tables dropped room → i < length tables → t ≡ get_or tables i t → place_named (named tables) name ≡ Some i → now.name ≡ t.name →
     (a : Pages) → told0 ≡ Some a → Changed a free0 fresh0 t told1 now m → Holds told1 (named (set tables i now)) (with_map (maps_of a (named tables)) name m)
 holds-after told0 told1 free0 free1 fresh0 fresh1 tables name i t now m s below e p nm a is w =
     let r = set-at a w.b free0 fresh0 tables name i t now m s.index (s.stored a is) below e p nm w.table w.binds (λ q. let k = s.balance q in omega (arith, k)) w.kept in
@@ -203,12 +199,13 @@ all-push : (a : Pages) (tables : List Table) (t : Table) → AllTables a tables 
 all-push a [] t h x = (x, tt)
 all-push a (y ∷ ys) t h x = (h.0, all-push a ys t h.1 x)
 
-kept-made : (a b : Pages) (told : Option Pages) (free : List ℕ) (fresh : ℕ) (tables : List Table) → IsStore told free fresh tables → KeepsUsed a b free fresh → Kept a b (λ n. tables_use n tables)
+kept-made : {dropped : List Table} {room : ℕ} (a b : Pages) (told : Option Pages) (free : List ℕ) (fresh : ℕ) (tables : List Table) → IsStore told free fresh tables dropped room → KeepsUsed a b free fresh → Kept a b (λ n. tables_use n tables)
 kept-made a b told free fresh tables s k = λ n used. k n (let q = s.balance n in omega (arith, q, used))
 
-pub store-made : (told0 told1 : Option Pages) (free0 free1 : List ℕ) (fresh0 fresh1 : ℕ) (tables new : List Table) (t : Table) → IsStore told0 free0 fresh0 tables → new ≡ tables ++ t ∷ [] → IsIndex t → ((n : ℕ) → vacant n free1 fresh1 + table_uses n t ≡ vacant n free0 fresh0) →
-    ((a : Pages) → told0 ≡ Some a → Made a free0 fresh0 told1 t) → (told0 ≡ None → told1 ≡ None) → IsStore told1 free1 fresh1 new
-store-made told0 told1 free0 free1 fresh0 fresh1 tables new t s e x number made hidden = record {
+pub store-made : {dropped : List Table} {room0 : ℕ} (room : ℕ) (told0 told1 : Option Pages) (free0 free1 : List ℕ) (fresh0 fresh1 : ℕ) (tables new : List Table) (t : Table) → IsStore told0 free0 fresh0 tables dropped room0 → new ≡ tables ++ t ∷ [] → IsIndex t → ((n : ℕ) → vacant n free1 fresh1 + table_uses n t ≡ vacant n free0 fresh0) →
+    ((a : Pages) → told0 ≡ Some a → Made a free0 fresh0 told1 t) → (told0 ≡ None → told1 ≡ None) → length tables + 1 + length dropped ≤ room → IsStore told1 free1 fresh1 new dropped room
+store-made room told0 told1 free0 free1 fresh0 fresh1 tables new t s e x number made hidden fits = record {
+  room = let l = ap length e in let k = length-append tables (t ∷ []) in omega (arith, l, k, fits);
   balance = λ n. let u = uses-push n tables t in let k = s.balance n in let m = ap (tables_use n) e in omega (arith, u, k, number n, m);
   index = subst AllIndex (sym e) (index-push tables t s.index x);
   stored = λ b is.
@@ -218,7 +215,7 @@ store-made told0 told1 free0 free1 fresh0 fresh1 tables new t s e x number made 
       subst (λ (z : Pages). AllTables z new) (same-pages told1 w.b b w.is_told is) (subst (AllTables w.b) (sym e) (all-push w.b tables t r.0 w.table));
 }
 
-pub holds-made : (told0 told1 : Option Pages) (free0 : List ℕ) (fresh0 : ℕ) (tables new : List Table) (t : Table) (name : Name) → IsStore told0 free0 fresh0 tables → new ≡ tables ++ t ∷ [] → t.name ≡ name → (a : Pages) → told0 ≡ Some a → Made a free0 fresh0 told1 t → Holds told1 (named new) (maps_of a (named tables) ++ (name, empty) ∷ [])
+pub holds-made : {dropped : List Table} {room : ℕ} (told0 told1 : Option Pages) (free0 : List ℕ) (fresh0 : ℕ) (tables new : List Table) (t : Table) (name : Name) → IsStore told0 free0 fresh0 tables dropped room → new ≡ tables ++ t ∷ [] → t.name ≡ name → (a : Pages) → told0 ≡ Some a → Made a free0 fresh0 told1 t → Holds told1 (named new) (maps_of a (named tables) ++ (name, empty) ∷ [])
 holds-made told0 told1 free0 fresh0 tables new t name s e nm a is w =
     let r = all-kept a w.b tables s.index (s.stored a is) (kept-made a w.b told0 free0 fresh0 tables s w.kept) in
     record {
@@ -241,3 +238,78 @@ names-all (x ∷ xs) t = ap (λ (ns : List Name). x.name ∷ ns) (names-all xs t
 
 pub names-more : (tables new : List Table) (t : Table) (name : Name) → new ≡ tables ++ t ∷ [] → t.name ≡ name → names (named new) ≡ names (named tables) ++ name ∷ []
 names-more tables new t name e nm = ap (λ (ts : List Table). names (named ts)) e ∙ names-all tables t ∙ ap (λ (n : Name). names (named tables) ++ n ∷ []) nm
+
+-- a dropped table's pages were taken back
+pub store-reclaimed : {told0 : Option Pages} {free0 : List ℕ} {fresh0 : ℕ} {tables dropped : List Table} {room : ℕ} (told : Option Pages) (free : List ℕ) (fresh : ℕ) (now : List Table) (room_now : ℕ) → IsStore told0 free0 fresh0 tables dropped room → told ≡ told0 → ((n : ℕ) → vacant n free fresh + tables_use n now ≡ vacant n free0 fresh0 + tables_use n dropped) → length now ≤ length dropped → room ≤ room_now →
+    IsStore told free fresh tables now room_now
+store-reclaimed told free fresh now room_now s e number shorter roomy = record {
+  balance = λ n. let k = s.balance n in omega (arith, k, number n);
+  index = s.index;
+  stored = λ a is. s.stored a (sym e ∙ is);
+  room = omega (arith, s.room, shorter, roomy);
+}
+
+-- a table was dropped
+uses-out : (n : ℕ) (tables : List Table) (i : ℕ) (t : Table) → i < length tables → t ≡ get_or tables i t → tables_use n (remove tables i) + table_uses n t ≡ tables_use n tables
+uses-out n [] i t below e = absurd (omega arith)
+uses-out n (x ∷ xs) zero t below e = let k = ap (table_uses n) e in omega arith
+uses-out n (x ∷ xs) (suc i) t below e = let k = uses-out n xs i t (omega arith) e in omega arith
+
+length-less : (tables : List Table) (i : ℕ) → i < length tables → length (remove tables i) + 1 ≡ length tables
+length-less [] i below = absurd (omega arith)
+length-less (x ∷ xs) zero below = omega arith
+length-less (x ∷ xs) (suc i) below = let r = length-less xs i (omega arith) in omega arith
+
+index-less : (tables : List Table) (i : ℕ) → AllIndex tables → AllIndex (remove tables i)
+index-less [] zero h = tt
+index-less [] (suc i) h = tt
+index-less (x ∷ xs) zero h = h.1
+index-less (x ∷ xs) (suc i) h = (h.0, index-less xs i h.1)
+
+tables-less : (a : Pages) (tables : List Table) (i : ℕ) → AllTables a tables → AllTables a (remove tables i)
+tables-less a [] zero h = tt
+tables-less a [] (suc i) h = tt
+tables-less a (x ∷ xs) zero h = h.1
+tables-less a (x ∷ xs) (suc i) h = (h.0, tables-less a xs i h.1)
+
+pub store-dropped : {told : Option Pages} {free : List ℕ} {fresh : ℕ} {tables dropped : List Table} {room : ℕ} (i : ℕ) (t : Table) (new now : List Table) (room_now : ℕ) → IsStore told free fresh tables dropped room → i < length tables → t ≡ get_or tables i t → new ≡ remove tables i → now ≡ dropped ++ t ∷ [] → room ≤ room_now → IsStore told free fresh new now room_now
+store-dropped {tables = tables} {dropped = dropped} i t new now room_now s below e n m roomy = record {
+  balance = λ q. let k = s.balance q in let u = uses-out q tables i t below e in let v = uses-push q dropped t in let x = ap (tables_use q) n in let y = ap (tables_use q) m in omega (arith, k, u, v, x, y);
+  index = subst AllIndex (sym n) (index-less tables i s.index);
+  stored = λ a is. subst (AllTables a) (sym n) (tables-less a tables i (s.stored a is));
+  room = let l = length-less tables i below in let x = ap length n in let y = ap length m in let z = length-append dropped (t ∷ []) in omega (arith, l, x, y, z, s.room, roomy);
+}
+
+pub named-less : (tables : List Table) (name : Name) (i : ℕ) → place_named (named tables) name ≡ Some i → named (remove tables i) ≡ without_table (named tables) name
+named-less [] name i h = cc
+named-less (x ∷ xs) name zero h = (elim (same_name x.name name) as (λ u. same_name x.name name ≡ u → cond u (Some 0) (option_map suc (place_named (named xs) name)) ≡ Some 0 → named xs ≡ cond u (named xs) ((x.name, x.root) ∷ without_table (named xs) name)) [
+  | true ↦ λ u h. refl
+  | false ↦ λ u h. absurd (later (place_named (named xs) name) h)
+]) refl h
+named-less (x ∷ xs) name (suc i) h = (elim (same_name x.name name) as (λ u. same_name x.name name ≡ u → cond u (Some 0) (option_map suc (place_named (named xs) name)) ≡ Some (suc i) → (x.name, x.root) ∷ named (remove xs i) ≡ cond u (named xs) ((x.name, x.root) ∷ without_table (named xs) name)) [
+  | true ↦ λ u h. absurd (first-not h)
+  | false ↦ λ u h. ap (λ (ns : List Named). (x.name, x.root) ∷ ns) (named-less xs name i (before (place_named (named xs) name) i h))
+]) refl h
+
+uses-chain : (n : ℕ) (slots : List Slot) (slot s : Slot) → slot ≡ s → chain_uses n (slots ++ s ∷ []) ≡ chain_uses n slots + slot_uses n slot
+uses-chain n [] slot s e = let k = ap (slot_uses n) e in omega arith
+uses-chain n (x ∷ xs) slot s e = let r = uses-chain n xs slot s e in omega arith
+
+uses-buckets : (n : ℕ) (buckets : List (List Slot)) (slots s : List Slot) → slots ≡ s → buckets_use n (buckets ++ s ∷ []) ≡ buckets_use n buckets + chain_uses n slots
+uses-buckets n [] slots s e = let k = ap (chain_uses n) e in omega arith
+uses-buckets n (x ∷ xs) slots s e = let r = uses-buckets n xs slots s e in omega arith
+
+-- the counts of a chain's and a table's pages, as they are taken back
+pub chain-more : (n : ℕ) (items slots : List Slot) (i : ℕ) (slot : Slot) → items ≡ slots → i < length items → slot ≡ get_or items i slot → chain_uses n (take (i + 1) slots) ≡ chain_uses n (take i slots) + slot_uses n slot
+chain-more n items slots i slot e below is = subst (λ (ss : List Slot). chain_uses n (take (i + 1) ss) ≡ chain_uses n (take i ss) + slot_uses n slot) e (ap (chain_uses n) (take_more items i slot below) ∙ uses-chain n (take i items) slot (get_or items i slot) is)
+
+pub buckets-more : (n : ℕ) (items buckets : List (List Slot)) (i : ℕ) (slots : List Slot) → items ≡ buckets → i < length items → slots ≡ get_or items i slots → buckets_use n (take (i + 1) buckets) ≡ buckets_use n (take i buckets) + chain_uses n slots
+buckets-more n items buckets i slots e below is = subst (λ (bs : List (List Slot)). buckets_use n (take (i + 1) bs) ≡ buckets_use n (take i bs) + chain_uses n slots) e (ap (buckets_use n) (take_more items i slots below) ∙ uses-buckets n (take i items) slots (get_or items i slots) is)
+
+-- the table that was dropped last
+pub popped : (n : ℕ) (old new : List Table) (o : Option Table) (t : Table) → old ≡ new ++ option_to_list o → o ≡ Some t → tables_use n old ≡ tables_use n new + table_uses n t
+popped n old new o t e is = ap (tables_use n) (e ∙ ap (λ (p : Option Table). new ++ option_to_list p) is) ∙ uses-push n new t
+
+pub unless : (b : Bool) (P : Type 0) → P → Unless b P
+unless true P h = tt
+unless false P h = h

@@ -1,5 +1,5 @@
 -- A store of tables, and what its calls do.
-use Rattle.std.specs.Prelude.{ℕ, suc, ◌≡◌, ◌+◌, Bool, true, false, List, [], ◌∷◌, map, Option, Some, None, is_some, option_map, if◌then◌else◌, refl}
+use Rattle.std.specs.Prelude.{ℕ, suc, ◌≡◌, ◌+◌, ◌≤◌, Bool, true, false, List, [], ◌∷◌, length, map, Option, Some, None, is_some, option_map, if◌then◌else◌, refl}
 use Rattle.std.specs.Coded.{Coded, code_by, coded×, coded_ℕ, coded_bool, coded_list}
 use Rattle.std.specs.FinMap.{empty}
 use Rattle.dds_disk.specs.Pages.{Pages}
@@ -55,6 +55,11 @@ abbrev pub with_map : List (Name × Map) → Name → Map → List (Name × Map)
 with_map [] name m = []
 with_map (table ∷ tables) name m = if same_name table.0 name then (table.0, m) ∷ tables else table ∷ with_map tables name m
 
+-- the tables without the first of a name
+abbrev pub without_table : List Named → Name → List Named
+without_table [] name = []
+without_table (table ∷ tables) name = if same_name table.0 name then tables else table ∷ without_table tables name
+
 abbrev pub AllIndex : List Table → Type 0
 AllIndex [] = Unit {0}
 AllIndex (table ∷ tables) = IsIndex table × AllIndex tables
@@ -63,9 +68,11 @@ abbrev pub AllTables : Pages → List Table → Type 0
 AllTables pages [] = Unit {0}
 AllTables pages (table ∷ tables) = IsTable pages table × AllTables pages tables
 
--- what is true of a store of which no call failed: each page is vacant or in one use, and no other
-pub record IsStore (told : Option Pages) (free : List ℕ) (fresh : ℕ) (tables : List Table) : Type 0 where
-  pub balance : (n : ℕ) → vacant n free fresh + tables_use n tables ≡ 1
+-- what is true of a store of which no call failed: each page is vacant or in one use, and no other; and each table may
+-- be dropped without taking memory
+pub record IsStore (told : Option Pages) (free : List ℕ) (fresh : ℕ) (tables dropped : List Table) (capacity : ℕ) : Type 0 where
+  pub balance : (n : ℕ) → vacant n free fresh + tables_use n tables + tables_use n dropped ≡ 1
+  pub room : length tables + length dropped ≤ capacity
   pub index : AllIndex tables
   pub stored : (pages : Pages) → told ≡ Some pages → AllTables pages tables
 

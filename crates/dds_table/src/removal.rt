@@ -1,13 +1,13 @@
 //! Taking a pair out of a table.
 
-ghost use Rattle.std.specs.Prelude.{◌≡◌, ℕ, ◌+◌, ◌-◌, ◌<◌, ◌≤◌, ◌^◌, List, ◌∷◌, [], Some, None, IsTrue, length, get_or, IfOk, IfErr, OnOk, OnErr, IsErrOf};
+ghost use Rattle.std.specs.Prelude.{◌≡◌, ℕ, ◌+◌, ◌-◌, ◌<◌, ◌≤◌, ◌^◌, List, ◌∷◌, [], Some, None, IsTrue, length, get_or, IfOk, IfErr, OnOk, OnErr, IsErrOf, vec_capacity};
 ghost use Rattle.std.specs.FinMap.{insert, remove as without};
 ghost use Rattle.dds_base.specs.Outside.{Rose};
 ghost use Rattle.dds_disk.specs.Pages.{Pages, page_at};
 ghost use Rattle.dds_pages.specs.Bucket.{Bucket, bucket_bytes};
 ghost use Rattle.dds_pages.specs.declared.bucket.PagePair.{PagePair};
 ghost use Rattle.dds_table.specs.Content.{bucket_in, bucket_no, content};
-ghost use Rattle.dds_table.specs.Index.{IsChain, IsTable, IsIndex, Misses, place_of, chain_uses, slot_uses, table_uses, vacant};
+ghost use Rattle.dds_table.specs.Index.{IsChain, IsTable, IsIndex, Misses, place_of, chain_uses, slot_uses, table_uses, tables_use, vacant};
 ghost use Rattle.dds_table.specs.Answers.{IsNoPage, Bridged, Changed};
 
 use crate::fault::TableFault;
@@ -103,4 +103,40 @@ pub(crate) fn remove_pair<D: Disk>(
     let slot = table.unlink(key, place);
     release(space, &slot)?;
     write_root(space, table)
+}
+
+/// Takes the pages of a chain back.
+fn release_chain<D: Disk>(space: &mut Space<D>, slots: &[Slot]) -> Result<(), Memory>
+    ensures cache { space.new.cache ≡ space.old.cache }
+    ensures number { OnOk result ((n : ℕ) → vacant n space.new.free.items space.new.fresh ≡ vacant n space.old.free.items space.old.fresh + chain_uses n slots.now) }
+{
+    'slots: for slot in slots {
+        release(space, slot)?;
+    }
+    Ok(())
+}
+
+/// Takes all pages of a table back.
+fn release_table<D: Disk>(space: &mut Space<D>, table: &Table) -> Result<(), Memory>
+    ensures cache { space.new.cache ≡ space.old.cache }
+    ensures number { OnOk result ((n : ℕ) → vacant n space.new.free.items space.new.fresh ≡ vacant n space.old.free.items space.old.fresh + table_uses n table.now) }
+{
+    space.give_back(table.root)?;
+    'buckets: for slots in table.buckets.as_slice() {
+        release_chain(space, slots.as_slice())?;
+    }
+    Ok(())
+}
+
+/// Takes back the pages of the table that was dropped last.
+pub(crate) fn reclaim<D: Disk>(space: &mut Space<D>, dropped: &mut Vec<Table>) -> Result<(), Memory>
+    ensures cache { space.new.cache ≡ space.old.cache }
+    ensures number { OnOk result ((n : ℕ) → vacant n space.new.free.items space.new.fresh + tables_use n dropped.new.items ≡ vacant n space.old.free.items space.old.fresh + tables_use n dropped.old.items) }
+    ensures shorter { length dropped.new.items ≤ length dropped.old.items }
+    ensures capacity { vec_capacity dropped.old ≤ vec_capacity dropped.new }
+{
+    match dropped.pop() {
+        None => Ok(()),
+        Some(table) => release_table(space, &table),
+    }
 }

@@ -1,16 +1,17 @@
 //! A store of tables by their names.
 
-ghost use Rattle.std.specs.Prelude.{◌≡◌, ℕ, ◌+◌, ◌<◌, ◌≤◌, ◌++◌, ◌∷◌, [], Some, None, true, false, is_some, IsTrue, IfOk, IfErr, OnOk, OnErr, IsErrOf, IfSome, length};
+ghost use Rattle.std.specs.Prelude.{◌≡◌, ℕ, ◌+◌, ◌<◌, ◌≤◌, ◌++◌, ◌∷◌, [], Some, None, true, false, is_some, IsTrue, IfOk, IfErr, OnOk, OnErr, IsErrOf, IfSome, length, vec_capacity};
 ghost use Rattle.std.specs.FinMap.{empty, get, insert, remove as without, contains_key, len as size};
 ghost use Rattle.dds_base.specs.Name.{Name, covers, overlaps, same_name};
 ghost use Rattle.dds_base.specs.Outside.{Rose};
 ghost use Rattle.dds_disk.specs.Pages.{Pages};
 ghost use Rattle.dds_table.specs.Answers.{IsNoPage};
-ghost use Rattle.dds_table.specs.Store.{StoreState, named, names, place_named, has_table, maps_of, map_named, with_map, Holds};
+ghost use Rattle.dds_table.specs.Store.{StoreState, named, names, place_named, has_table, maps_of, map_named, with_map, without_table, Holds};
 
 use crate::change::{bind, unbind};
 use crate::fault::TableFault;
 use crate::pairs::{create, get};
+use crate::removal::reclaim;
 use crate::space::Space;
 use crate::table::Table;
 use dds_base::memory::Memory;
@@ -57,10 +58,12 @@ fn place_in(tables: &[Table], name: &LeafName) -> usize
 pub struct Store<D: Disk> {
     space: Space<D>,
     tables: Vec<Table>,
+    dropped: Vec<Table>,
     failed: bool,
 }
 
 impl<D: Disk> Model for Store<D> {
+    ghost use Rattle.std.specs.Prelude.{vec_capacity};
     ghost use Rattle.dds_table.specs.Store.{StoreState, store_code, named, IsStore, Unless};
 
     ghost Value = { StoreState D };
@@ -69,7 +72,7 @@ impl<D: Disk> Model for Store<D> {
 
     ghost view = { λ a. record { cache = a.space.cache; tables = named a.tables.items; failed = a.failed } };
 
-    ghost invariant = { λ a. Unless a.failed (IsStore (D.pages a.space.cache.disk) a.space.free.items a.space.fresh a.tables.items) };
+    ghost invariant = { λ a. Unless a.failed (IsStore (D.pages a.space.cache.disk) a.space.free.items a.space.fresh a.tables.items a.dropped.items (vec_capacity a.dropped)) };
 }
 
 impl<D: Disk> Store<D> {
@@ -82,6 +85,7 @@ impl<D: Disk> Store<D> {
         Ok(Store {
             space: Space::new(alloc, disk)?,
             tables: Vec::new(alloc),
+            dropped: Vec::new(alloc),
             failed: false,
         })
     }
@@ -93,6 +97,7 @@ impl<D: Disk> Store<D> {
         let Store {
             space,
             tables: _,
+            dropped: _,
             failed: _,
         } = self;
         space.into_disk()
@@ -112,7 +117,9 @@ impl<D: Disk> Store<D> {
         ensures never_falls { D.faults self.old.cache.disk ≤ D.faults self.new.cache.disk }
     {
         self.failed = true;
+        reclaim(&mut self.space, &mut self.dropped)?;
         let table = create(&mut self.space, name)?;
+        reserve(&mut self.dropped, self.tables.len() + 1)?;
         push(&mut self.tables, table)?;
         self.failed = false;
         Ok(())
@@ -161,6 +168,18 @@ impl<D: Disk> Store<D> {
         Ok(value)
     }
 
+    /// Drops a table with its pairs. It makes no call of the disk and takes no memory: the table's
+    /// pages are taken back by a later call that wants pages.
+    pub fn drop_table(&mut self, name: LeafName)
+        requires live { self.old.failed ≡ false }
+        requires there { IsTrue (has_table self.old.tables name) }
+        ensures { self.new ≡ record self.old { tables = without_table self.old.tables name } }
+    {
+        let place = place_in(self.tables.as_slice(), &name);
+        let table = self.tables.remove(place);
+        drop_into(&mut self.dropped, table);
+    }
+
     /// Binds a key to a value; whether it was bound before.
     pub fn put(&mut self, name: LeafName, key: u64, value: &Value) -> Result<bool, TableFault>
         requires live { self.old.failed ≡ false }
@@ -179,6 +198,7 @@ impl<D: Disk> Store<D> {
         ensures never_falls { D.faults self.old.cache.disk ≤ D.faults self.new.cache.disk }
     {
         self.failed = true;
+        reclaim(&mut self.space, &mut self.dropped)?;
         let place = place_in(self.tables.as_slice(), &name);
         let was = match bind(&mut self.space, &mut self.tables[place], key, value) {
             Ok(was) => was,
@@ -212,6 +232,24 @@ impl<D: Disk> Store<D> {
         self.failed = false;
         Ok(was)
     }
+}
+
+/// Makes room for more tables.
+fn reserve(tables: &mut Vec<Table>, more: usize) -> Result<(), Memory>
+    ensures items { tables.new.items ≡ tables.old.items }
+    ensures room { OnOk result (length tables.new.items + more ≤ vec_capacity tables.new) }
+{
+    tables.reserve(more)?;
+    Ok(())
+}
+
+/// Adds a table behind the others, for which there is room.
+fn drop_into(tables: &mut Vec<Table>, table: Table)
+    requires { length tables.old.items < vec_capacity tables.old }
+    ensures items { tables.new.items ≡ tables.old.items ++ table ∷ [] }
+    ensures capacity { vec_capacity tables.old ≤ vec_capacity tables.new }
+{
+    let _ = tables.push(table);
 }
 
 /// Adds a table behind the others.
