@@ -10,3 +10,4 @@ pub mod Adding
 pub mod Removing
 pub mod Changing
 pub mod Stores
+pub mod Parts

@@ -2,3 +2,4 @@ pub mod Content
 pub mod Index
 pub mod Answers
 pub mod Store
+pub mod Part

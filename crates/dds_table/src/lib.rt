@@ -4,6 +4,7 @@
 mod change;
 pub mod fault;
 mod pairs;
+pub mod part;
 mod removal;
 mod space;
 pub mod store;

@@ -6,11 +6,13 @@ ghost use Rattle.dds_base.specs.Name.{Name, covers, overlaps, same_name};
 ghost use Rattle.dds_base.specs.Outside.{Rose};
 ghost use Rattle.dds_disk.specs.Pages.{Pages};
 ghost use Rattle.dds_table.specs.Answers.{IsNoPage};
+ghost use Rattle.dds_table.specs.Part.{IsPart};
 ghost use Rattle.dds_table.specs.Store.{StoreState, named, names, place_named, has_table, maps_of, map_named, with_map, without_table, Holds};
 
 use crate::change::{bind, unbind};
 use crate::fault::TableFault;
 use crate::pairs::{create, get};
+use crate::part::{Part, read_part};
 use crate::removal::reclaim;
 use crate::space::Space;
 use crate::table::Table;
@@ -166,6 +168,37 @@ impl<D: Disk> Store<D> {
         };
         self.failed = false;
         Ok(value)
+    }
+
+    /// Reads the pairs that follow a key in the order of places, at most so many: a key's place is
+    /// its bucket, and then the key.
+    pub fn part(
+        &mut self,
+        name: LeafName,
+        after: Option<u64>,
+        most: usize,
+    ) -> Result<Part, TableFault>
+        requires live { self.old.failed ≡ false }
+        requires there { IsTrue (has_table self.old.tables name) }
+        ensures told { (a : Pages) → D.pages self.old.cache.disk ≡ Some a → IfOk result (λ part. IsPart (map_named (maps_of a self.old.tables) name) after most part.pairs part.last) }
+        ensures most { IfOk result (λ part. length part.pairs ≤ most) }
+        ensures pages { D.pages self.new.cache.disk ≡ D.pages self.old.cache.disk }
+        ensures tables { self.new.tables ≡ self.old.tables }
+        ensures ok { OnOk result (self.new.failed ≡ false) }
+        ensures err { OnErr result (self.new.failed ≡ true) }
+        ensures lawful { (a : Pages) → D.pages self.old.cache.disk ≡ Some a → IfErr result IsNoPage }
+        ensures rose { IsErrOf result TableFault.Disk → Rose (D.faults self.old.cache.disk) (D.faults self.new.cache.disk) }
+        ensures steady { OnOk result (D.faults self.new.cache.disk ≡ D.faults self.old.cache.disk) }
+        ensures never_falls { D.faults self.old.cache.disk ≤ D.faults self.new.cache.disk }
+    {
+        self.failed = true;
+        let place = place_in(self.tables.as_slice(), &name);
+        let part = match read_part(&mut self.space, &self.tables[place], after, most) {
+            Ok(part) => part,
+            Err(fault) => return Err(fault),
+        };
+        self.failed = false;
+        Ok(part)
     }
 
     /// Drops a table with its pairs. It makes no call of the disk and takes no memory: the table's
