@@ -3,6 +3,7 @@
 ghost use Rattle.std.specs.Prelude.{◌≡◌, false, OnOk};
 
 use crate::fault::TableFault;
+use crate::part::Pair;
 use crate::store::Store;
 use dds_base::memory::Memory;
 use dds_base::name::LeafName;
@@ -109,6 +110,80 @@ fn work<D: Disk>(alloc: Global, store: &mut Store<D>, name: LeafName) -> Result<
     right += u32::from(try_get(store, name, 5)?.is_none());
     right += u32::from(try_get(store, name, 3)?.is_some());
     Ok(right)
+}
+
+/// The keys of a part and whether it is the last.
+fn try_part<D: Disk>(
+    alloc: Global,
+    store: &mut Store<D>,
+    name: LeafName,
+    after: Option<u64>,
+    most: usize,
+) -> Result<(Vec<u64>, bool), TableFault>
+    requires { store.old.failed ≡ false }
+    ensures { OnOk result (store.new.failed ≡ false) }
+{
+    if !store.has(name) {
+        return Err(TableFault::Memory);
+    }
+    match store.part(name, after, most) {
+        Ok(part) => Ok((keys(alloc, part.pairs.as_slice())?, part.last)),
+        Err(fault) => Err(fault),
+    }
+}
+
+/// The keys of some pairs.
+fn keys(alloc: Global, pairs: &[Pair]) -> Result<Vec<u64>, Memory> {
+    let mut keys = Vec::new(alloc);
+    for pair in pairs {
+        keys.push(pair.key)?;
+    }
+    Ok(keys)
+}
+
+/// Adds a table of the keys 1, 2 and 3, reads it in two parts, and drops it; says whether each
+/// answer was as it must be.
+fn parts<D: Disk>(alloc: Global, store: &mut Store<D>, name: LeafName) -> Result<bool, TableFault>
+    requires { store.old.failed ≡ false }
+    ensures { OnOk result (store.new.failed ≡ false) }
+{
+    store.add(name)?;
+    let value = value_of(alloc, 5, 1)?;
+    for key in 1..4u64 {
+        try_put(store, name, key, &value)?;
+    }
+    let (first, last) = try_part(alloc, store, name, None, 2)?;
+    let right = first.as_slice() == [2, 1].as_slice() && !last;
+    let (second, last) = try_part(alloc, store, name, Some(1), 2)?;
+    let right = right && second.as_slice() == [3].as_slice() && last;
+    if !store.has(name) {
+        return Ok(false);
+    }
+    store.drop_table(name);
+    Ok(right && !store.has(name))
+}
+
+/// The parts of a table, and then the work of another one that takes its pages.
+fn parts_and_work<D: Disk>(
+    alloc: Global,
+    store: &mut Store<D>,
+    name: LeafName,
+) -> Result<u32, TableFault>
+    requires { store.old.failed ≡ false }
+{
+    if !parts(alloc, store, name)? {
+        return Ok(0);
+    }
+    work(alloc, store, name)
+}
+
+#[test]
+fn reads_parts_in_the_order_of_places(rt: HostRuntime) -> Result<(), Fail> {
+    let name = whole()?;
+    let mut disk = MemoryDisk::new(rt.alloc(), &[])?;
+    let mut store = Store::new(rt.alloc(), &mut disk)?;
+    assert_eq!(rt; parts_and_work(rt.alloc(), &mut store, name), Ok(22));
+    Ok(())
 }
 
 #[test]
