@@ -1,4 +1,4 @@
-use Rattle.std.proofs.Common.{arith, ◌∙◌, ◌≡◌, ◌<◌, List, length, sym, ap, subst, get_or, true}
+use Rattle.std.proofs.Common.{arith, ◌∙◌, List, sym, subst}
 use Rattle.dds_table.specs.Part.{IsNext, in_chain}
 use Rattle.dds_table.specs.declared.table.Slot.{Slot}
 use Rattle.dds_table.proofs.Parts.{found-next}

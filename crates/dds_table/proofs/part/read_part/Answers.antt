@@ -1,8 +1,7 @@
-use Rattle.std.proofs.Common.{refl, sym, ◌∙◌, ap, arith, length, length-append, ◌-◌, ◌≡◌, Some, None, true, List, [], ◌∷◌}
-use Rattle.std.specs.FinMap.{get, contains_key}
+use Rattle.std.proofs.Common.{sym, ◌∙◌, ap, arith, length, length-append, ◌-◌, Some, None, [], ◌∷◌}
+use Rattle.std.specs.FinMap.{get}
 use Rattle.dds_table.specs.Content.{content}
-use Rattle.dds_table.specs.declared.part.Pair.{Pair}
-use Rattle.dds_table.proofs.Parts.{next-content, part-start, part-none, part-some, part-more, not-absent}
+use Rattle.dds_table.proofs.Parts.{next-content, part-none, part-some, part-more, not-absent}
 use Rattle.dds_table.proofs.part.read_part.Goals as goal
 
 pub returns-in-None-clause-told : goal.returns-in-None-clause-told

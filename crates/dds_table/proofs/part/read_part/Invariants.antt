@@ -1,9 +1,8 @@
-use Rattle.std.proofs.Common.{ℕ, ◌≡◌, ◌-◌, List, ◌++◌, length, Bool, Some}
+use Rattle.std.proofs.Common.{◌≡◌, ◌-◌, length, Some}
 use Rattle.dds_disk.specs.Pages.{Pages}
 use Rattle.dds_table.specs.Content.{content}
 use Rattle.dds_table.specs.Index.{IsTable}
 use Rattle.dds_table.proofs.Parts.{Continues}
-use Rattle.dds_table.specs.declared.part.Pair.{Pair}
 use Rattle.dds_table.proofs.part.read_part.Given as goal
 
 abbrev pub invariant-pairs : goal.invariant-pairs

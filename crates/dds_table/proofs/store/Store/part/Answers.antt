@@ -1,5 +1,4 @@
 use Rattle.std.proofs.Common.{List, ◌≡◌, Some, length, sym, ap, ◌∙◌, arith}
-use Rattle.std.specs.FinMap.{get}
 use Rattle.dds_table.specs.Content.{Map}
 use Rattle.dds_table.specs.Store.{named, place_named, maps_of, map_named}
 use Rattle.dds_table.specs.declared.table.Table.{Table}
