@@ -1,0 +1,13 @@
+pub mod Uses
+pub mod ReadBack
+pub mod Chains
+pub mod Contents
+pub mod Reading
+pub mod Writing
+pub mod Fetching
+pub mod Slots
+pub mod Adding
+pub mod Removing
+pub mod Changing
+pub mod Stores
+pub mod Parts

@@ -1,0 +1,7 @@
+use Rattle.std.proofs.Common.{ℕ, ◌≡◌, ◌<◌, true, false}
+use Rattle.dds_table.specs.Content.{bucket_no}
+use Rattle.dds_table.specs.Part.{is_after, has_key}
+use Rattle.dds_table.proofs.part.next_key.Given as goal
+
+abbrev pub invariant-buckets : goal.invariant-buckets
+invariant-buckets l = (q : ℕ) → bucket_no q < l.bucket → has_key l.table q ≡ true → is_after l.after q ≡ false

@@ -1,0 +1,15 @@
+use Rattle.std.proofs.Common.{ℕ, ◌≡◌, ◌≤◌, List, length, Some}
+use Rattle.dds_disk.specs.Pages.{Pages}
+use Rattle.dds_table.specs.Index.{IsSpread}
+use Rattle.dds_table.proofs.Fetching.{IsReading}
+use Rattle.dds_table.proofs.value.read_chain.Given as goal
+
+abbrev pub invariant-pages : goal.invariant-pages
+invariant-pages g l = record {
+  within : length l.bytes.items ≤ l.len;
+  read : (a : Pages) (value : List ℕ) → g.D.Disk.pages l.fn.space.cache.disk ≡ Some a → IsSpread a l.overflow value → l.len ≡ length value → IsReading a l.overflow l.page-index value l.bytes.items;
+  same : g.D.Disk.pages l.space.cache.disk ≡ g.D.Disk.pages l.fn.space.cache.disk;
+  free : l.space.free.items ≡ l.fn.space.free.items;
+  fresh : l.space.fresh ≡ l.fn.space.fresh;
+  steady : g.D.Disk.faults l.space.cache.disk ≡ g.D.Disk.faults l.fn.space.cache.disk;
+}

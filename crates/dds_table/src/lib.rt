@@ -1,0 +1,14 @@
+//! Tables on a disk: each a hash table of chained pages, and a store of tables by their names.
+#![tactic(auto)]
+
+mod change;
+pub mod fault;
+mod pairs;
+pub mod part;
+mod removal;
+mod space;
+pub mod store;
+mod table;
+#[cfg(test)]
+mod tests;
+mod value;
