@@ -12,7 +12,8 @@ use Rattle.dds_pages.specs.Root.{root_bytes}
 use Rattle.dds_pages.specs.Bucket.{IsHeld, FitsAPage, pair_bytes, held_bytes, bucket_bytes}
 use Rattle.dds_pages.specs.declared.bucket.Held.{Held}
 use Rattle.dds_pages.specs.declared.bucket.PagePair.{PagePair}
-use Rattle.dds_table.specs.Content.{Map, bucket_no, content}
+use Rattle.dds_table.specs.Content.{Map, content}
+use Rattle.dds_base.specs.Place.{bucket as bucket_no}
 use Rattle.dds_table.specs.Index.{same, times, chain_uses, buckets_use, table_uses, vacant, first_page, found, total, slot_value, IsStored, IsChain, IsIndex, IsTable, AreKeysOf, Misses}
 use Rattle.dds_base.specs.Name.{Name, covers}
 use Rattle.dds_table.specs.Answers.{WroteValue, Changed, Made}

@@ -2,7 +2,8 @@
 use Rattle.std.proofs.Common.{ℕ, zero, suc, ◌∷◌, ◌≡◌, ◌+◌, ◌==◌, cond, true, false, List, [], get_or, Option, Some, None, is_some, refl, sym, ap, subst, ◌∙◌, arith}
 use Rattle.std.specs.FinMap.{get, insert, contains_key, remove as without}
 use Rattle.dds_disk.specs.Pages.{Pages}
-use Rattle.dds_table.specs.Content.{Map, bucket_no, content}
+use Rattle.dds_table.specs.Content.{Map, content}
+use Rattle.dds_base.specs.Place.{bucket as bucket_no}
 use Rattle.dds_table.specs.Index.{table_uses, vacant, place_of, found, Misses, IsIndex, IsTable}
 use Rattle.dds_table.specs.Answers.{Changed}
 use Rattle.dds_table.specs.declared.table.Slot.{Slot}

@@ -10,7 +10,8 @@ use Rattle.dds_disk.specs.Pages.{Pages, page_at}
 use Rattle.dds_disk.proofs.Pages.{alike}
 use Rattle.dds_base.specs.Name.{Name}
 use Rattle.dds_pages.specs.Root.{Root}
-use Rattle.dds_table.specs.Content.{bucket_no, root_in, firsts_in, chain_pairs, content}
+use Rattle.dds_table.specs.Content.{root_in, firsts_in, chain_pairs, content}
+use Rattle.dds_base.specs.Place.{bucket as bucket_no}
 use Rattle.dds_table.specs.Index.{first_page, IsChain, found, AreKeysOf, total, IsIndex, IsTable, Misses, slot_value}
 use Rattle.dds_table.specs.declared.table.Slot.{Slot}
 use Rattle.dds_table.specs.declared.table.Table.{Table}

@@ -6,12 +6,15 @@ use Rattle.std.proofs.lemmas.Bool.Decides.{nat_tests}
 use Rattle.std.specs.FinMap.{get, contains_key}
 use Rattle.dds_disk.specs.Pages.{Pages}
 use Rattle.dds_base.specs.Name.{Name}
-use Rattle.dds_table.specs.Content.{Map, bucket_no, content}
+use Rattle.dds_table.specs.Content.{Map, content}
+use Rattle.dds_base.specs.Place.{bucket as bucket_no}
 use Rattle.dds_table.specs.Index.{place_of, found, slot_value, IsIndex, IsTable, AreKeysOf}
-use Rattle.dds_table.specs.Part.{is_before, is_after, IsNext, in_chain, has_key, IsPart, earlier}
+use Rattle.dds_table.specs.Part.{IsNext, in_chain, has_key, IsPart, earlier}
+use Rattle.dds_base.specs.Place.{is_after}
+use Rattle.dds_base.specs.Place.{is_before}
 use Rattle.dds_table.specs.declared.table.Slot.{Slot}
 use Rattle.dds_table.specs.declared.table.Table.{Table}
-use Rattle.dds_table.specs.declared.part.Pair.{Pair}
+use Rattle.dds_base.specs.declared.pair.Pair.{Pair}
 use Rattle.dds_table.proofs.Adding.{is-at}
 use Rattle.dds_table.proofs.Contents.{content-found}
 

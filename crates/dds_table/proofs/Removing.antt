@@ -11,7 +11,8 @@ use Rattle.dds_disk.proofs.Pages.{alike}
 use Rattle.dds_base.specs.Name.{Name}
 use Rattle.dds_pages.specs.Root.{root_bytes}
 use Rattle.dds_pages.specs.Bucket.{bucket_bytes}
-use Rattle.dds_table.specs.Content.{Map, bucket_no, content}
+use Rattle.dds_table.specs.Content.{Map, content}
+use Rattle.dds_base.specs.Place.{bucket as bucket_no}
 use Rattle.dds_table.specs.Index.{same, times, slot_uses, chain_uses, buckets_use, table_uses, vacant, first_page, found, total, slot_value, place_of, IsStored, IsChain, IsIndex, IsTable, AreKeysOf, Misses}
 use Rattle.dds_table.specs.Answers.{Bridged, Changed}
 use Rattle.dds_table.specs.declared.table.Slot.{Slot}

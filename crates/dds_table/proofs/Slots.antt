@@ -6,11 +6,12 @@ use Rattle.dds_table.specs.Index.{first_page, place_of, found, slot_value, IsSto
 use Rattle.dds_pages.specs.Bucket.{Bucket, IsHeld}
 use Rattle.dds_pages.specs.declared.bucket.Held.{Held}
 use Rattle.dds_table.specs.Content.{bucket_in}
+use Rattle.dds_base.specs.Place.{bucket as bucket_no}
 use Rattle.dds_table.specs.Index.{IsPlaced}
 use Rattle.dds_table.specs.declared.table.Slot.{Slot}
 use Rattle.std.proofs.Common.{Result, Ok, Err, IfOk}
 use Rattle.std.specs.FinMap.{get}
-use Rattle.dds_table.specs.Content.{bucket_no, content}
+use Rattle.dds_table.specs.Content.{content}
 use Rattle.dds_table.specs.Index.{IsIndex, IsTable}
 use Rattle.dds_table.specs.declared.table.Table.{Table}
 use Rattle.dds_table.specs.declared.fault.TableFault.{TableFault}

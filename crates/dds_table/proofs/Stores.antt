@@ -9,7 +9,8 @@ use Rattle.std.proofs.lemmas.Bool.Decides.{nat_tests}
 use Rattle.std.specs.FinMap.{empty, contains_key, len}
 use Rattle.dds_disk.specs.Pages.{Pages, page_at}
 use Rattle.dds_base.specs.Name.{Name, same_name}
-use Rattle.dds_table.specs.Content.{Map, bucket_no, content}
+use Rattle.dds_table.specs.Content.{Map, content}
+use Rattle.dds_base.specs.Place.{bucket as bucket_no}
 use Rattle.dds_table.specs.Index.{vacant, slot_uses, chain_uses, buckets_use, table_uses, tables_use, IsIndex, IsTable}
 use Rattle.dds_table.specs.declared.table.Slot.{Slot}
 use Rattle.dds_table.specs.Answers.{Changed, Made, KeepsUsed}

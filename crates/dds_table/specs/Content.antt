@@ -1,5 +1,5 @@
 -- What the pages of a table say.
-use Rattle.std.specs.Prelude.{ℕ, zero, suc, ◌-◌, ◌*◌, ◌/◌, ◌%◌, ◌^◌, ◌==◌, if◌then◌else◌, Option, None, Some, List, [], ◌++◌, length, map, flat_map}
+use Rattle.std.specs.Prelude.{ℕ, zero, suc, ◌-◌, ◌^◌, ◌==◌, if◌then◌else◌, Option, None, Some, List, [], ◌++◌, length, map, flat_map}
 use Rattle.std.specs.Ordering.{nat_cmp}
 use Rattle.std.specs.FinMap.{FinMap, from_entries}
 use Rattle.dds_disk.specs.Pages.{Pages, page_at}
@@ -14,10 +14,6 @@ use Rattle.dds_pages.specs.declared.bucket.PagePair.{PagePair}
 -- the pairs of a table
 abbrev pub Map : Type 0
 Map = FinMap nat_cmp (List ℕ)
-
--- the bucket of a key
-unfoldable pub bucket_no : ℕ → ℕ
-bucket_no key = key * 11400714819323198485 % 2 ^ 64 / 2 ^ 56
 
 -- what was read, where no field is refused
 abbrev pub accepted : {X : Type 0} → Option ℕ → X → Option X

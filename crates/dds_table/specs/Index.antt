@@ -8,7 +8,8 @@ use Rattle.dds_pages.specs.Overflow.{overflow_bytes}
 use Rattle.dds_pages.specs.declared.bucket.Held.{Held}
 use Rattle.dds_pages.specs.declared.bucket.Held.TheVariants.{Here, Chain}
 use Rattle.dds_pages.specs.declared.bucket.PagePair.{PagePair}
-use Rattle.dds_table.specs.Content.{bucket_no, value_in, bucket_in}
+use Rattle.dds_table.specs.Content.{value_in, bucket_in}
+use Rattle.dds_base.specs.Place.{bucket as bucket_no}
 use Rattle.dds_table.specs.declared.table.Slot.{Slot}
 use Rattle.dds_table.specs.declared.table.Table.{Table}
 

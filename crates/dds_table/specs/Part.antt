@@ -1,19 +1,12 @@
 -- The pairs of a table in the order of their places.
-use Rattle.std.specs.Prelude.{ℕ, zero, suc, ◌≡◌, ◌==◌, ◌&&◌, ◌||◌, nat_lt, if◌then◌else◌, Bool, true, false, List, [], ◌∷◌, Option, Some, None, is_some, get_or}
+use Rattle.std.specs.Prelude.{ℕ, zero, suc, ◌≡◌, if◌then◌else◌, Bool, true, false, List, [], ◌∷◌, Option, Some, None, is_some, get_or}
 use Rattle.std.specs.FinMap.{get, contains_key}
-use Rattle.dds_table.specs.Content.{Map, bucket_no}
+use Rattle.dds_table.specs.Content.{Map}
+use Rattle.dds_base.specs.Place.{bucket as bucket_no, is_before, is_after}
 use Rattle.dds_table.specs.Index.{place_of}
 use Rattle.dds_table.specs.declared.table.Slot.{Slot}
 use Rattle.dds_table.specs.declared.table.Table.{Table}
-use Rattle.dds_table.specs.declared.part.Pair.{Pair}
-
--- the place of a key is its bucket, and then the key
-abbrev pub is_before : ℕ → ℕ → Bool
-is_before p q = nat_lt (bucket_no p) (bucket_no q) || (bucket_no p == bucket_no q && nat_lt p q)
-
-abbrev pub is_after : Option ℕ → ℕ → Bool
-is_after None q = true
-is_after (Some p) q = is_before p q
+use Rattle.dds_base.specs.declared.pair.Pair.{Pair}
 
 -- of the keys that pass a test, the first in place after another
 abbrev pub IsNext : (ℕ → Bool) → Option ℕ → Option ℕ → Type 0

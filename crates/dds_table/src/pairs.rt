@@ -8,7 +8,8 @@ ghost use Rattle.dds_disk.specs.Pages.{Pages, page_at};
 ghost use Rattle.dds_pages.specs.Root.{Root, root_bytes};
 ghost use Rattle.dds_pages.specs.Bucket.{Bucket, IsHeld, FitsAPage, bucket_bytes};
 ghost use Rattle.dds_pages.specs.declared.bucket.Held.{Held};
-ghost use Rattle.dds_table.specs.Content.{bucket_in, bucket_no, content};
+ghost use Rattle.dds_table.specs.Content.{bucket_in, content};
+ghost use Rattle.dds_base.specs.Place.{bucket as bucket_no};
 ghost use Rattle.dds_table.specs.Index.{first_page, IsStored, IsTable, IsIndex, Misses, place_of, slot_value, table_uses, vacant};
 ghost use Rattle.dds_table.specs.Answers.{IsNoPage, IsReadAs, Changed, Made};
 

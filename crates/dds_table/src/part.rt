@@ -3,53 +3,27 @@
 ghost use Rattle.std.specs.Prelude.{◌≡◌, ℕ, ◌+◌, ◌-◌, ◌<◌, ◌≤◌, ◌^◌, List, ◌∷◌, [], Some, None, length, get_or, IfOk, IfErr, OnOk, IsErrOf};
 ghost use Rattle.dds_base.specs.Outside.{Rose};
 ghost use Rattle.dds_disk.specs.Pages.{Pages};
-ghost use Rattle.dds_table.specs.Content.{bucket_no, content};
+ghost use Rattle.dds_table.specs.Content.{content};
+ghost use Rattle.dds_base.specs.Place.{bucket as bucket_no};
 ghost use Rattle.dds_table.specs.Index.{IsTable, IsIndex};
 ghost use Rattle.dds_table.specs.Answers.{IsNoPage};
-ghost use Rattle.dds_table.specs.Part.{is_before, is_after, earlier, in_chain, has_key, IsNext, IsPart};
+ghost use Rattle.dds_table.specs.Part.{earlier, in_chain, has_key, IsNext, IsPart};
+ghost use Rattle.dds_base.specs.Place.{is_after};
+ghost use Rattle.dds_base.specs.Place.{is_before};
 
 use crate::fault::TableFault;
 use crate::pairs::get;
 use crate::space::Space;
-use crate::table::{Slot, Table, bucket_of};
-use dds_base::items::Items;
-use dds_base::value::Value;
+use crate::table::{Slot, Table};
+use dds_base::pair::{Pair, PairList};
+use dds_base::place::{is_after, is_before};
 use dds_disk::disk::Disk;
-
-/// A key with its value.
-#[derive(Debug, Drop)]
-pub struct Pair {
-    pub key: u64,
-    pub value: Value,
-}
-
-/// The pairs of a part, in the order of their places.
-pub type PairList = Items<Pair>;
 
 /// Some pairs that follow one another in place, and whether none follow them.
 #[derive(Drop)]
 pub struct Part {
     pub pairs: PairList,
     pub last: bool,
-}
-
-/// Whether a key's place is before another's.
-fn is_before(p: u64, q: u64) -> bool
-    ensures { result ≡ is_before p q }
-{
-    let one = bucket_of(p);
-    let other = bucket_of(q);
-    one < other || (one == other && p < q)
-}
-
-/// Whether a key's place is after another's, if there is one.
-fn is_after(after: Option<u64>, q: u64) -> bool
-    ensures { result ≡ is_after after q }
-{
-    match after {
-        None => true,
-        Some(p) => is_before(p, q),
-    }
 }
 
 /// The first of two keys in place, of which the first may be missing, after another.
@@ -109,7 +83,7 @@ pub(crate) fn read_part<D: Disk>(
     ensures steady { OnOk result (D.faults space.new.cache.disk ≡ D.faults space.old.cache.disk) }
     ensures never_falls { D.faults space.old.cache.disk ≤ D.faults space.new.cache.disk }
 {
-    let mut pairs = Items::new(space.alloc);
+    let mut pairs = PairList::new(space.alloc);
     let mut after = start;
     'pairs: for _pair in 0..most {
         let key = match next_key(table, after) {

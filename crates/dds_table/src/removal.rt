@@ -6,7 +6,8 @@ ghost use Rattle.dds_base.specs.Outside.{Rose};
 ghost use Rattle.dds_disk.specs.Pages.{Pages, page_at};
 ghost use Rattle.dds_pages.specs.Bucket.{Bucket, bucket_bytes};
 ghost use Rattle.dds_pages.specs.declared.bucket.PagePair.{PagePair};
-ghost use Rattle.dds_table.specs.Content.{bucket_in, bucket_no, content};
+ghost use Rattle.dds_table.specs.Content.{bucket_in, content};
+ghost use Rattle.dds_base.specs.Place.{bucket as bucket_no};
 ghost use Rattle.dds_table.specs.Index.{IsChain, IsTable, IsIndex, Misses, place_of, chain_uses, slot_uses, table_uses, tables_use, vacant};
 ghost use Rattle.dds_table.specs.Answers.{IsNoPage, Bridged, Changed};
 

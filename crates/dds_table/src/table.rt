@@ -4,12 +4,13 @@ ghost use Rattle.std.specs.Prelude.{◌≡◌, ◌+◌, ◌-◌, ◌<◌, ◌≤
 ghost use Rattle.std.proofs.Math.ListN.{set};
 ghost use Rattle.std.specs.List.{remove};
 ghost use Rattle.dds_pages.specs.Root.{Root};
-ghost use Rattle.dds_table.specs.Content.{bucket_no};
+ghost use Rattle.dds_base.specs.Place.{bucket as bucket_no};
 ghost use Rattle.dds_table.specs.Index.{place_of, first_page};
 
 use dds_base::items::Items;
 use dds_base::memory::Memory;
 use dds_base::name::LeafName;
+use dds_base::place::bucket;
 use dds_pages::fault::NO_PAGE;
 use dds_pages::root::{BUCKETS, PAIRS, RootPage};
 use std::alloc::Global;
@@ -32,12 +33,12 @@ pub(crate) struct Table {
 }
 
 /// The bucket of a key.
-#[tactic(auto, unfolding(crate::specs::Content::bucket_no))]
+#[tactic(auto, unfolding(dds_base::specs::Place::bucket))]
 pub(crate) fn bucket_of(key: u64) -> u8
     ensures value { result ≡ bucket_no key }
     ensures range { bucket_no key < 256 }
 {
-    (key.wrapping_mul(11_400_714_819_323_198_485) / (1 << 56)) as u8
+    bucket(key)
 }
 
 /// The place of the key's slot.

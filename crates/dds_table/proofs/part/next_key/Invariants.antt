@@ -1,6 +1,7 @@
 use Rattle.std.proofs.Common.{ℕ, ◌≡◌, ◌<◌, true, false}
-use Rattle.dds_table.specs.Content.{bucket_no}
-use Rattle.dds_table.specs.Part.{is_after, has_key}
+use Rattle.dds_base.specs.Place.{bucket as bucket_no}
+use Rattle.dds_table.specs.Part.{has_key}
+use Rattle.dds_base.specs.Place.{is_after}
 use Rattle.dds_table.proofs.part.next_key.Given as goal
 
 abbrev pub invariant-buckets : goal.invariant-buckets

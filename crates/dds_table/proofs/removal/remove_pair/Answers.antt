@@ -1,5 +1,5 @@
 use Rattle.std.proofs.Common.{ℕ, List, sym, ◌∙◌, ap, arith, ◌+◌, ◌≤◌, subst}
-use Rattle.dds_table.specs.Content.{bucket_no}
+use Rattle.dds_base.specs.Place.{bucket as bucket_no}
 use Rattle.dds_table.specs.Index.{table_uses, vacant, chain_uses, IsChain}
 use Rattle.dds_table.specs.Answers.{Bridged}
 use Rattle.dds_table.specs.declared.table.Slot.{Slot}
