@@ -21,4 +21,6 @@ pub mod refusal;
 pub mod refused;
 pub mod resolution;
 pub mod take;
+#[cfg(test)]
+mod tests;
 pub mod turn;

@@ -3,10 +3,10 @@
 ghost use Rattle.std.specs.Prelude.{◌≡◌, false, OnOk};
 
 use crate::fault::TableFault;
-use crate::part::Pair;
 use crate::store::Store;
 use dds_base::memory::Memory;
 use dds_base::name::LeafName;
+use dds_base::pair::Pair;
 use dds_base::value::Value;
 use dds_disk::disk::Disk;
 use dds_disk::memory_disk::MemoryDisk;
