@@ -65,7 +65,7 @@ pub record Moves (told : Option Pages) (tables : List Named) (maps : List (Name 
   pub is_told : told ≡ Some pages
   pub moving : IsMoving maps name left (maps_of pages tables)
 
--- the table has room for one pair more than its half has, without one of its own
+-- a table and either half's table have no more pairs together than one table may have
 pub record HasRoom (maps : List (Name × Map)) (name : Name) : Type 0 where
   pub low : len (map_named maps name) + len (map_named maps (low_half name)) ≤ 16384
   pub high : len (map_named maps name) + len (map_named maps (high_half name)) ≤ 16384

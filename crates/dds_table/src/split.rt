@@ -1,13 +1,11 @@
 //! A table becomes the tables of its name's two halves.
 
-ghost use Rattle.std.specs.Prelude.{◌≡◌, ℕ, ◌<◌, ◌≤◌, ◌-◌, ◌++◌, ◌∷◌, [], List, Some, None, true, false, IsTrue, IfErr, OnOk, OnErr, IsErrOf};
-ghost use Rattle.std.specs.FinMap.{get, contains_key, len as size};
-ghost use Rattle.dds_base.specs.Name.{Name, covers};
+ghost use Rattle.std.specs.Prelude.{◌≡◌, ◌<◌, ◌≤◌, ◌++◌, ◌∷◌, [], Some, None, true, false, IsTrue, IfErr, OnOk, OnErr, IsErrOf};
+ghost use Rattle.std.specs.FinMap.{get, len as size};
 ghost use Rattle.dds_base.specs.Outside.{Rose};
 ghost use Rattle.dds_disk.specs.Pages.{Pages};
 ghost use Rattle.dds_groups.specs.Names.{low_half, high_half};
 ghost use Rattle.dds_table.specs.Answers.{IsNoPage};
-ghost use Rattle.dds_table.specs.Content.{Map};
 ghost use Rattle.dds_table.specs.Store.{names, has_table, maps_of, map_named, without_table, Holds};
 ghost use Rattle.dds_table.specs.Split.{covered, halves_of, put_covered, moved, IsTurn, HasRoom};
 
