@@ -11,3 +11,6 @@ pub mod Removing
 pub mod Changing
 pub mod Stores
 pub mod Parts
+pub mod NamedMaps
+pub mod Splits
+pub mod Turns

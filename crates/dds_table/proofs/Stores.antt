@@ -134,7 +134,7 @@ set-at a b free fresh (y ∷ ys) name (suc i) t now m x h below e p nm tab c sin
           }
     ]) refl p
 
-same-pages : (o : Option Pages) (x y : Pages) → o ≡ Some x → o ≡ Some y → x ≡ y
+pub same-pages : (o : Option Pages) (x y : Pages) → o ≡ Some x → o ≡ Some y → x ≡ y
 same-pages o x y e f = cc
 
 none-some : (o : Option Pages) (b : Pages) → o ≡ None → o ≡ Some b → ⊥

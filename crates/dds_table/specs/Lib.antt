@@ -3,3 +3,4 @@ pub mod Index
 pub mod Answers
 pub mod Store
 pub mod Part
+pub mod Split

@@ -7,6 +7,7 @@ mod pairs;
 pub mod part;
 mod removal;
 mod space;
+pub mod split;
 pub mod store;
 mod table;
 #[cfg(test)]

@@ -1,6 +1,6 @@
 //! A store at work over disks of memory.
 
-ghost use Rattle.std.specs.Prelude.{◌≡◌, false, OnOk};
+ghost use Rattle.std.specs.Prelude.{◌≡◌, ◌<◌, false, OnOk};
 
 use crate::fault::TableFault;
 use crate::store::Store;
@@ -11,6 +11,7 @@ use dds_base::value::Value;
 use dds_disk::disk::Disk;
 use dds_disk::memory_disk::MemoryDisk;
 use dds_disk::zero_disk::ZeroDisk;
+use dds_groups::halves::{high_half, low_half};
 use std::alloc::Global;
 use std::test::Fail;
 
@@ -242,5 +243,54 @@ fn a_disk_forgets(rt: HostRuntime) -> Result<(), Fail> {
             Err(fault) => assert!(rt; !all && matches!(fault, TableFault::Page { page: _ })),
         }
     }
+    Ok(())
+}
+
+/// Splits where the store's conditions hold.
+fn try_split<D: Disk>(store: &mut Store<D>, name: LeafName) -> Result<(), TableFault>
+    requires { store.old.failed ≡ false }
+    ensures { OnOk result (store.new.failed ≡ false) }
+{
+    if !store.has(name) || name.depth() >= 16 {
+        return Err(TableFault::Memory);
+    }
+    if store.has(low_half(name)) || store.has(high_half(name)) {
+        return Err(TableFault::Memory);
+    }
+    store.split(name)
+}
+
+/// Splits a table of the keys 1 to 9; says how many answers were as they must be.
+fn halves<D: Disk>(alloc: Global, store: &mut Store<D>, name: LeafName) -> Result<u32, TableFault>
+    requires live { store.old.failed ≡ false }
+    requires depth { name.depth < 16 }
+{
+    let (low, high) = (low_half(name), high_half(name));
+    store.add(name)?;
+    let value = value_of(alloc, 5, 1)?;
+    for key in 1..10u64 {
+        try_put(store, name, key, &value)?;
+    }
+    try_split(store, name)?;
+    let mut right = u32::from(!store.has(name));
+    for key in 1..10u64 {
+        let (found, other) = if key % 2 == 0 {
+            (low, high)
+        } else {
+            (high, low)
+        };
+        right += u32::from(try_get(store, found, key)? == Some(shown(&value)));
+        right += u32::from(try_get(store, other, key)?.is_none());
+    }
+    Ok(right)
+}
+
+#[test]
+fn splits(rt: HostRuntime) -> Result<(), Fail> {
+    let name = whole()?;
+    assert!(rt; name.depth() < 16);
+    let mut disk = MemoryDisk::new(rt.alloc(), &[])?;
+    let mut store = Store::new(rt.alloc(), &mut disk)?;
+    assert_eq!(rt; halves(rt.alloc(), &mut store, name), Ok(19));
     Ok(())
 }
