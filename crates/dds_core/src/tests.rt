@@ -85,16 +85,16 @@ fn remove(rt: &impl Abort, txn: TxnNo, below: u64, key: u64) -> Letter {
 }
 
 /// The bound that a prepare carries.
-fn bounds(letter: Option<(NodeNo, Letter)>) -> Option<u64> {
+fn bound(letter: &Option<(NodeNo, Letter)>) -> Option<u64> {
     match letter {
-        Some((_, Letter::Prepare { below, .. })) => Some(below),
+        Some((_, Letter::Prepare { below, .. })) => Some(*below),
         _ => None,
     }
 }
 
-fn is_yes(letter: Option<(NodeNo, Letter)>) -> bool {
+fn is_yes(letter: &Option<(NodeNo, Letter)>) -> bool {
     match letter {
-        Some((_, Letter::Vote { vote, .. })) => vote == Ballot::Yes,
+        Some((_, Letter::Vote { vote, .. })) => *vote == Ballot::Yes,
         _ => false,
     }
 }
@@ -107,7 +107,7 @@ fn a_prepare_forgets_outcomes_below_its_bound(rt: HostRuntime) -> Result<(), Fai
     for (number, below) in [(2, 0), (3, 0), (5, 3)] {
         let txn = txn(&rt, number);
         let mut turn = brick_turn(alloc, &mut state, library, &remove(&rt, txn, below, 7))?;
-        assert!(rt; is_yes(turn.letters.pop()), "vote on {number}");
+        assert!(rt; is_yes(&turn.letters.pop()), "vote on {number}");
         brick_turn(alloc, &mut state, library, &Letter::Abort { txn })?;
     }
     assert_eq!(rt; state.locks.status(txn(&rt, 2)), TxnStatus::NotPrepared);
@@ -123,7 +123,7 @@ fn a_prepare_carries_the_least_open_attempt(rt: HostRuntime) -> Result<(), Fail>
         let caller = CallerNo::of(caller).ok_or("a caller")?;
         let op = Op::Remove { key: 7 };
         let mut turn = library_input(alloc, &mut state, caller, CallNo(0), &op)?;
-        assert_eq!(rt; bounds(turn.letters.pop()), want);
+        assert_eq!(rt; bound(&turn.letters.pop()), want);
     }
     for member in [0, 1] {
         let aborted = Letter::Aborted { txn: txn(&rt, 0) };
