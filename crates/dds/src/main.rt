@@ -2,9 +2,9 @@
 #![tactic(auto)]
 
 use dds_base::std_edge::{StdSink, StdSource};
-use dds_cli::ended::End;
 use dds_cli::steps::run_steps;
-use dds_script::script_error::{ScriptFault, ScriptKind};
+use dds_ends::end::End;
+use dds_ends::telling::tell;
 use std::io::BufWriter;
 use std::process::ExitCode;
 use std::{env, io};
@@ -31,29 +31,4 @@ fn command(rt: &HostRuntime) -> io::Result<End> {
         (End::Finished, Err(_)) => End::WriteFault,
         (end, _) => end,
     })
-}
-
-/// Says on standard error why the command did not finish.
-fn tell(rt: &impl Eprint, end: End) -> io::Result<()> {
-    let name = match end {
-        End::Finished => return Ok(()),
-        End::Script(ScriptFault { line, kind }) => {
-            let kind = match kind {
-                ScriptKind::NoEnd => "NoEnd",
-                ScriptKind::Form => "Form",
-                ScriptKind::Place => "Place",
-                ScriptKind::Number => "Number",
-                ScriptKind::Value => "Value",
-                ScriptKind::Cover => "Cover",
-                ScriptKind::Later => "Later",
-            };
-            return eprintln!(rt; "line {line}: {kind}");
-        }
-        End::Usage => "usage: dds step [PREFIX] | threads WORKERS | load CALLS SEED",
-        End::TooLong => "script too long",
-        End::ReadFault => "read failed",
-        End::WriteFault => "write failed",
-        End::Memory => "no memory",
-    };
-    eprintln!(rt; "{name}")
 }

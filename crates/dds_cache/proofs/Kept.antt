@@ -229,3 +229,11 @@ sound-look q n bytes false s found missing = sound-same _ q s refl (missing refl
 pub held-used : (capacity : ℕ) (kept : Kept) (n : ℕ) (bytes : List ℕ) → 0 < capacity → held (after_use capacity kept n bytes) n ≡ Some bytes
 held-used zero kept n bytes h = absurd (omega arith)
 held-used (suc m) kept n bytes h = let same : nat_eq n n ≡ true = grind (arith, nat_tests) in rw same
+
+-- a page that was used is held
+own-number : (n : ℕ) → nat_eq n n ≡ true
+own-number n = grind (arith, nat_tests)
+
+pub held-in-front : (capacity : ℕ) (kept : Kept) (n : ℕ) (bytes : List ℕ) → 0 < capacity → held (after_use capacity kept n bytes) n ≡ Some bytes
+held-in-front zero kept n bytes some = absurd (omega arith)
+held-in-front (suc c) kept n bytes some = ap (λ (t : Bool). cond t (Some bytes) (held (take c (remove_entry (nat_eq n) kept)) n)) (own-number n)

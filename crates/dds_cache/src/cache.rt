@@ -1,6 +1,6 @@
 //! A cache over a disk: pages that were read or written are held, the least recently used leaves.
 
-ghost use Rattle.std.specs.Prelude.{◌≡◌, ℕ, ◌≤◌, List, length, Some, None, [], IfOk, OnOk, OnErr, IsErrOf, IsTrue, is_some, true, false};
+ghost use Rattle.std.specs.Prelude.{◌≡◌, ℕ, ◌<◌, ◌≤◌, List, length, Some, None, [], IfOk, OnOk, OnErr, IsErrOf, IsTrue, is_some, true, false};
 ghost use Rattle.dds_base.specs.Outside.{Rose};
 ghost use Rattle.dds_disk.specs.Pages.{ReadPage, WrotePage};
 ghost use Rattle.dds_cache.specs.declared.cache.CacheFault.TheVariants.{Memory as NoMemory};
@@ -131,12 +131,20 @@ impl<D: Disk> Cache<D> {
         Ok(())
     }
 
+    /// The law that a cache may hold some page. Does nothing.
+    fn may_hold(&self)
+        ensures { 0 < self.now.capacity }
+    {
+        let _capacity = self.capacity;
+    }
+
     /// Gives the page. One that is held is given with no call of the disk, and any other with one
-    /// read. The page is then the one that was used last.
+    /// read. The page is then the one that was used last, and it is held as it was given.
     pub fn read(&mut self, page: u64) -> Result<[u8; 4_096], CacheFault>
         ensures held { (bytes : List ℕ) → held self.old.kept page ≡ Some bytes → (result ≡ Ok bytes) × (self.new.disk ≡ self.old.disk) }
         ensures gives { IfOk result (λ bytes. ReadPage (D.pages self.old.disk) page bytes (D.pages self.new.disk)) }
         ensures kept { IfOk result (λ bytes. self.new.kept ≡ after_use self.old.capacity self.old.kept page bytes) }
+        ensures given { IfOk result (λ bytes. held self.new.kept page ≡ Some bytes) }
         ensures capacity { self.new.capacity ≡ self.old.capacity }
         ensures err_pages { OnErr result (D.pages self.new.disk ≡ D.pages self.old.disk) }
         ensures err_kept { OnErr result (self.new.kept ≡ self.old.kept) }
@@ -144,6 +152,7 @@ impl<D: Disk> Cache<D> {
         ensures steady { OnOk result (D.faults self.new.disk ≡ D.faults self.old.disk) }
         ensures never_falls { D.faults self.old.disk ≤ D.faults self.new.disk }
     {
+        self.may_hold();
         let mut bytes = [0; 4_096];
         if !self.find(page, &mut bytes) {
             self.fetch(page, &mut bytes)?;

@@ -1,31 +1,30 @@
 //! `dds step`: reads a script, runs it, and writes its transcript.
 
-ghost use Rattle.std.specs.Prelude.{◌≡◌, ◌↔◌, ◌-◌, ◌<◌, ◌≤◌, ◌^◌, IsTrue, length};
+ghost use Rattle.std.specs.Prelude.{◌≡◌, ◌↔◌, ◌≤◌, IfOk, IsTrue, length};
 ghost use Rattle.std.specs.List.{AllByRecursion};
-ghost use Rattle.dds_script.specs.Grammar.{first_opening};
-ghost use Rattle.dds_stepper.specs.Progress.{IsFirstCaller};
-ghost use Rattle.dds_cli.specs.Ended.{IsStepCommand, IsEndOf, status_of};
-ghost use Rattle.dds_cli.specs.Ending.{IsWritten, IsEndOfScript, IsEndOfBytes};
+ghost use Rattle.dds_script.specs.Opening.{first_opening, ranges_of};
+ghost use Rattle.dds_script.specs.Ranges.{IsInRanges};
+ghost use Rattle.dds_walk.specs.Law.{IsFirstLine};
+ghost use Rattle.dds_walk.specs.Walk.{transcript};
+ghost use Rattle.dds_ends.specs.End.{IsStepCommand, status_of};
+ghost use Rattle.dds_cli.specs.Ended.{IsEndOf};
+ghost use Rattle.dds_cli.specs.Ending.{IsEndOfScript, IsEndOfBytes, IsRanScript};
 
-use crate::ended::{End, Ended};
+use crate::ended::Ended;
 use dds_base::memory::Memory;
 use dds_base::sink::Sink;
 use dds_base::source::{ReadEnd, Source, read_all};
+use dds_ends::command::{BYTES, LINES, is_step, write_transcript};
+use dds_ends::end::End;
+use dds_law_commit::laws::{answers_are_caused, runs_stand};
 use dds_script::opening::Script;
-use dds_script::read_script::read_script;
+use dds_script::read_script::read_first_script;
 use dds_script::report_line::ReportLine;
 use dds_script::script_error::ScriptError;
-use dds_script::write_lines::{WriteEnd, write_lines};
-use dds_stepper::run::run;
-use dds_stepper::stepper::Finished;
+use dds_walk::laws::{steps_are_plain, steps_run};
+use dds_walk::reports::{plain_steps, report};
 use dds_world::step::Journal;
 use std::alloc::Global;
-
-/// The most bytes of a script.
-pub const BYTES: usize = 8_388_608;
-
-/// The most lines of a script.
-pub const LINES: usize = 20_000;
 
 /// Carries out a command. The words are to be the one word `step`; then the source gives a script, which is run, and the
 /// sink takes its transcript. It always returns.
@@ -55,7 +54,7 @@ fn run_bytes<K: Sink>(alloc: Global, bytes: &[u8], sink: &mut K) -> Ended
     ensures status { result.status ≡ status_of result.end }
     ensures end { IsEndOfBytes bytes.now (K.written sink.old) (K.faults sink.old) (K.written sink.new) (K.faults sink.new) result.journal result.end }
 {
-    match read_script(alloc, bytes) {
+    match read_first_script(alloc, bytes) {
         Ok(script) => run_script(alloc, &script, sink),
         Err(ScriptError::Fault(fault)) => Ended::early(alloc, End::Script(fault)),
         Err(ScriptError::Memory) => Ended::early(alloc, End::Memory),
@@ -65,36 +64,40 @@ fn run_bytes<K: Sink>(alloc: Global, bytes: &[u8], sink: &mut K) -> Ended
 /// Runs a script, and writes its transcript.
 fn run_script<K: Sink>(alloc: Global, script: &Script, sink: &mut K) -> Ended
     requires opening { script.now.opening ≡ first_opening }
-    requires callers { AllByRecursion IsFirstCaller script.now.lines }
-    requires few { length script.now.lines < 2 ^ 32 - 1 }
+    requires ranges { AllByRecursion (IsInRanges (ranges_of script.now.opening)) script.now.lines }
+    requires lines { AllByRecursion IsFirstLine script.now.lines }
     ensures status { result.status ≡ status_of result.end }
     ensures end { IsEndOfScript script.now (K.written sink.old) (K.faults sink.old) (K.written sink.new) (K.faults sink.new) result.journal result.end }
 {
     match run(alloc, script) {
-        Ok(Finished { journal, lines }) => written(alloc, journal, lines.as_slice(), sink),
+        Ok(Ran { journal, lines }) => {
+            Ended::with(write_transcript(alloc, lines.as_slice(), sink), journal)
+        }
         Err(Memory) => Ended::early(alloc, End::Memory),
     }
 }
 
-/// Writes the lines of a transcript.
-fn written<K: Sink>(alloc: Global, journal: Journal, lines: &[ReportLine], sink: &mut K) -> Ended
-    ensures status { result.status ≡ status_of result.end }
-    ensures journal { result.journal ≡ journal }
-    ensures end { IsWritten lines.now (K.written sink.old) (K.faults sink.old) (K.written sink.new) (K.faults sink.new) result.end }
-{
-    match write_lines(alloc, lines, sink) {
-        Ok(()) => Ended::with(End::Finished, journal),
-        Err(WriteEnd::Failed) => Ended::with(End::WriteFault, journal),
-        Err(WriteEnd::Memory) => Ended::with(End::Memory, journal),
-    }
+/// The journal that a script determines, and the lines of the script's transcript over it.
+#[derive(Drop)]
+struct Ran {
+    journal: Journal,
+    lines: Vec<ReportLine>,
 }
 
-/// Whether the words are the command `step`.
-fn is_step(words: &[String]) -> bool
-    ensures { IsTrue result ↔ IsStepCommand words.now }
+/// Runs a script. That its journal is a run, that the calls of this run stand in one legal history, and that each refusal
+/// has its cause, the laws say.
+fn run(alloc: Global, script: &Script) -> Result<Ran, Memory>
+    requires opening { script.now.opening ≡ first_opening }
+    requires ranges { AllByRecursion (IsInRanges (ranges_of script.now.opening)) script.now.lines }
+    requires lines { AllByRecursion IsFirstLine script.now.lines }
+    ensures ran { IfOk result (λ ran. IsRanScript script.now ran.journal) }
+    ensures lines { IfOk result (λ ran. ran.lines.items ≡ transcript script.now ran.journal) }
 {
-    match words {
-        [word] => word.as_str() == "step",
-        _ => false,
-    }
+    steps_run();
+    steps_are_plain();
+    runs_stand();
+    answers_are_caused();
+    let journal = plain_steps(alloc, script)?;
+    let lines = report(alloc, script, &journal)?;
+    Ok(Ran { journal, lines })
 }

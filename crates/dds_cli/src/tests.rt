@@ -1,9 +1,9 @@
 //! The worked examples from bytes to bytes, a failing source and a failing sink.
 
-use crate::ended::End;
 use crate::steps::run_steps;
 use dds_base::memory_sink::MemorySink;
 use dds_base::memory_source::MemorySource;
+use dds_ends::end::End;
 use dds_script::script_error::{ScriptFault, ScriptKind};
 use std::alloc::Global;
 use std::test::Fail;
@@ -76,7 +76,7 @@ fn takes_the_longest_value(rt: HostRuntime) -> Result<(), Fail> {
     let longer = large_script(alloc, 60_001)?;
     let refused = End::Script(ScriptFault {
         line: 3,
-        kind: ScriptKind::Later,
+        kind: ScriptKind::Value,
     });
     assert_eq!(rt; outcome(alloc, longer.as_slice(), b"")?, (refused, true));
     Ok(())

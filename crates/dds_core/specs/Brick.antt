@@ -5,14 +5,14 @@ use Rattle.dds_base.specs.declared.op.Order.{Order}
 use Rattle.dds_base.specs.declared.op.Order.TheVariants as order
 use Rattle.dds_letters.specs.declared.letter.Letter.{Letter}
 use Rattle.dds_letters.specs.declared.letter.Letter.TheVariants as letter
-use Rattle.dds_core.specs.Turn.{BrickTurn, still}
-use Rattle.dds_core.specs.Calls.{get_row, prepare_row, commit_row, abort_row, map_ask_row}
-use Rattle.dds_core.specs.Take.{push_row}
-use Rattle.dds_core.specs.Orders.{lease_row, release_row, copy_ask_row, install_row}
-use Rattle.dds_core.specs.OwnOrder.{join_order, split_order, granted_row, lease_refused_row, copy_part_row, installed_row}
-use Rattle.dds_core.specs.Resolution.{help_row, query_row, status_row, outcome_row}
+use Rattle.dds_states.specs.Turn.{BrickTurn, still}
+use Rattle.dds_brick_rows.specs.Calls.{get_row, prepare_row, commit_row, abort_row, map_ask_row}
+use Rattle.dds_brick_rows.specs.Take.{push_row}
+use Rattle.dds_order_rows.specs.Orders.{lease_row, release_row, copy_ask_row, install_row}
+use Rattle.dds_order_rows.specs.OwnOrder.{join_order, split_order, granted_row, lease_refused_row, copy_part_row, installed_row}
+use Rattle.dds_brick_rows.specs.Resolution.{help_row, query_row, status_row, outcome_row}
 use Rattle.dds_core.specs.Notice.{notice_row}
-use Rattle.dds_core.specs.declared.brick_state.BrickState.{BrickState}
+use Rattle.dds_states.specs.declared.brick_state.BrickState.{BrickState}
 
 -- what a letter does at a live brick; letters to libraries do nothing
 abbrev pub live_brick_turn : BrickState → NodeNo → Letter → BrickTurn

@@ -1,11 +1,3 @@
-pub mod Turn
-pub mod Refusal
-pub mod Calls
-pub mod Take
-pub mod Orders
-pub mod OwnOrder
-pub mod Resolution
 pub mod Notice
 pub mod Brick
-pub mod Library
 pub mod LibraryTurn

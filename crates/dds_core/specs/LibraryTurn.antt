@@ -9,16 +9,16 @@ use Rattle.dds_base.specs.declared.op.Op.{Op}
 use Rattle.dds_base.specs.declared.op.Reply.{Reply}
 use Rattle.dds_letters.specs.declared.letter.Letter.{Letter}
 use Rattle.dds_letters.specs.declared.letter.Letter.TheVariants as letter
-use Rattle.dds_core.specs.Turn.{LibraryTurn, no_out, both, letters_out}
-use Rattle.dds_core.specs.Library.{CallTurn, stays, begin, got_in, vote_in, applied_in, aborted_in, told_in, notice_in}
-use Rattle.dds_core.specs.declared.library_state.Desk.{Desk}
-use Rattle.dds_core.specs.declared.library_state.LibraryState.{LibraryState}
-use Rattle.dds_core.specs.declared.library_state.OpenCall.{OpenCall}
-use Rattle.dds_core.specs.declared.library_state.Request.{Request}
-use Rattle.dds_core.specs.declared.library_state.Went.{Went}
-use Rattle.dds_core.specs.declared.turn.CoreTurn.{CoreTurn}
-use Rattle.dds_core.specs.declared.turn.Replied.{Replied}
-use Rattle.dds_core.specs.declared.turn.Replied.TheVariants.{Call}
+use Rattle.dds_states.specs.Turn.{LibraryTurn, no_out, both, letters_out}
+use Rattle.dds_call_rows.specs.Library.{CallTurn, stays, begin, got_in, vote_in, applied_in, aborted_in, told_in, notice_in}
+use Rattle.dds_states.specs.declared.library_state.Desk.{Desk}
+use Rattle.dds_states.specs.declared.library_state.LibraryState.{LibraryState}
+use Rattle.dds_states.specs.declared.library_state.OpenCall.{OpenCall}
+use Rattle.dds_states.specs.declared.library_state.Request.{Request}
+use Rattle.dds_states.specs.declared.library_state.Went.{Went}
+use Rattle.dds_states.specs.declared.turn.CoreTurn.{CoreTurn}
+use Rattle.dds_states.specs.declared.turn.Replied.{Replied}
+use Rattle.dds_states.specs.declared.turn.Replied.TheVariants.{Call}
 
 -- a turn that changes nothing but the state
 abbrev pub keeps : LibraryState → LibraryTurn

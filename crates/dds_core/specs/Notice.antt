@@ -9,19 +9,19 @@ use Rattle.dds_base.specs.declared.op.OrderReply.TheVariants as answered
 use Rattle.dds_base.specs.declared.pending.Pending.{Pending}
 use Rattle.dds_letters.specs.declared.letter.Letter.TheVariants as letter
 use Rattle.dds_locks.specs.Leases.{released_all}
-use Rattle.dds_core.specs.Turn.{BrickTurn, still, sends, and_then, without, unknown}
-use Rattle.dds_core.specs.OwnOrder.{ends, leases_on, copies, installs_on, going_on, with_order}
-use Rattle.dds_core.specs.Resolution.{before, help_row, query_row, is_resolved, resolve, resolves_on, unwaited}
-use Rattle.dds_core.specs.declared.brick_state.BrickState.{BrickState}
-use Rattle.dds_core.specs.declared.brick_state.Deferred.{Deferred}
-use Rattle.dds_core.specs.declared.brick_state.OpenOrder.{OpenOrder}
-use Rattle.dds_core.specs.declared.brick_state.OrderPhase.{OrderPhase}
-use Rattle.dds_core.specs.declared.brick_state.OrderPhase.TheVariants.{Leasing, Copying, Installing}
-use Rattle.dds_core.specs.declared.brick_state.Question.{Question}
-use Rattle.dds_core.specs.declared.brick_state.Question.TheVariants.{Help, Query}
-use Rattle.dds_core.specs.declared.brick_state.Resolving.{Resolving}
-use Rattle.dds_core.specs.declared.brick_state.Task.{Task}
-use Rattle.dds_core.specs.declared.brick_state.Task.TheVariants as task
+use Rattle.dds_states.specs.Turn.{BrickTurn, still, sends, and_then, without, unknown}
+use Rattle.dds_order_rows.specs.OwnOrder.{ends, leases_on, copies, installs_on, going_on, with_order}
+use Rattle.dds_brick_rows.specs.Resolution.{before, help_row, query_row, is_resolved, resolve, resolves_on, unwaited}
+use Rattle.dds_states.specs.declared.brick_state.BrickState.{BrickState}
+use Rattle.dds_states.specs.declared.brick_state.Deferred.{Deferred}
+use Rattle.dds_states.specs.declared.brick_state.OpenOrder.{OpenOrder}
+use Rattle.dds_states.specs.declared.brick_state.OrderPhase.{OrderPhase}
+use Rattle.dds_states.specs.declared.brick_state.OrderPhase.TheVariants.{Leasing, Copying, Installing}
+use Rattle.dds_states.specs.declared.brick_state.Question.{Question}
+use Rattle.dds_states.specs.declared.brick_state.Question.TheVariants.{Help, Query}
+use Rattle.dds_states.specs.declared.brick_state.Resolving.{Resolving}
+use Rattle.dds_states.specs.declared.brick_state.Task.{Task}
+use Rattle.dds_states.specs.declared.brick_state.Task.TheVariants as task
 
 -- the node is known to have stopped, and its leases are dropped
 abbrev pub learns : BrickState → NodeNo → BrickState

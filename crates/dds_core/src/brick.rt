@@ -3,20 +3,20 @@
 ghost use Rattle.std.specs.Prelude.{◌≡◌, IfOk, OnOk};
 ghost use Rattle.dds_core.specs.Brick.{live_brick_turn, brick_turn, brick_input};
 
-use crate::brick_state::BrickState;
-use crate::calls::{abort, commit, get, map_ask, prepare};
 use crate::notice::notice;
-use crate::orders::{copy_ask, install, lease, release};
-use crate::own_letters::{copy_part, granted, installed, lease_refused};
-use crate::own_order::{join, split};
-use crate::resolution::{help, outcome, query, status};
-use crate::take::take;
-use crate::turn::CoreTurn;
 use dds_base::memory::Memory;
 use dds_base::number::NodeNo;
 use dds_base::op::Order;
 use dds_base::pending::Pending;
+use dds_brick_rows::calls::{abort, commit, get, map_ask, prepare};
+use dds_brick_rows::resolution::{help, outcome, query, status};
+use dds_brick_rows::take::take;
 use dds_letters::letter::Letter;
+use dds_order_rows::orders::{copy_ask, install, lease, release};
+use dds_order_rows::own_letters::{copy_part, granted, installed, lease_refused};
+use dds_order_rows::own_order::{join, split};
+use dds_states::brick_state::BrickState;
+use dds_states::turn::CoreTurn;
 use std::alloc::Global;
 
 /// What a letter does at a brick: nothing at a stopped one. After `Memory` nothing is said of the state. Where a step

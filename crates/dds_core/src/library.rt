@@ -3,22 +3,22 @@
 ghost use Rattle.std.specs.Prelude.{◌≡◌, ◌<◌, ◌≤◌, ◌==◌, ◌+◌, [], ◌∷◌, ◌++◌, IfOk, OnOk, IfSome, OnSome, IfNone, Some, None, ◌^◌, length, position, option_to_list, slice_get, if◌then◌else◌};
 ghost use Rattle.std.specs.FinMap as map;
 ghost use Rattle.std.specs.List.{remove};
-ghost use Rattle.dds_core.specs.Turn.{both};
-ghost use Rattle.dds_core.specs.Library.{begin};
+ghost use Rattle.dds_states.specs.Turn.{both};
+ghost use Rattle.dds_call_rows.specs.Library.{begin};
 ghost use Rattle.dds_core.specs.LibraryTurn.{least_attempt, desk_of, after_turn, replies_of, given, new_request, input_turn, library_input, call_row, call_place, put_back, call_turn, at_call, turn_of, turn_at, at_place, attempt_of, at_attempt, notice_calls, attempts, learns, notice_turn, live_library_turn, library_turn};
 
-use crate::attempt::{begin, stay};
-use crate::call::{aborted, applied, got, told, unchanged, vote};
-use crate::call_notice::notice;
-use crate::library_state::{Desk, LibraryState, OpenCall, Request, TxnNumbers, Went};
-use crate::turn::{CoreTurn, PointList, Replied, ReplyList};
 use dds_base::items::Items;
 use dds_base::memory::Memory;
 use dds_base::number::{CallNo, CallerNo, NodeNo, TxnNo};
 use dds_base::op::{Op, Reply};
+use dds_call_rows::attempt::{begin, stay};
+use dds_call_rows::call::{aborted, applied, got, told, unchanged, vote};
+use dds_call_rows::call_notice::notice;
 use dds_letters::letter::Letter;
 use dds_letters::outbox::Outbox;
 use dds_maps::maps::Maps;
+use dds_states::library_state::{Desk, LibraryState, OpenCall, Request, TxnNumbers, Went};
+use dds_states::turn::{CoreTurn, PointList, Replied, ReplyList};
 use std::alloc::Global;
 
 /// The least attempt number of open calls, 2^64 - 1 where there are none.

@@ -1,18 +1,12 @@
 //! The five parts of a notice at a brick, in their order: a node has stopped.
 
 ghost use Rattle.std.specs.Prelude.{◌≡◌, ◌==◌, ◌&&◌, ◌||◌, [], ◌∷◌, ◌++◌, IfOk, OnOk, Some, None, length, not};
-ghost use Rattle.dds_core.specs.declared.brick_state.OrderPhase.TheVariants.{Leasing, Installing};
+ghost use Rattle.dds_states.specs.declared.brick_state.OrderPhase.TheVariants.{Leasing, Installing};
 ghost use Rattle.dds_base.specs.BrickList.{has};
 ghost use Rattle.dds_base.specs.NodeSet.{has_node};
-ghost use Rattle.dds_core.specs.Resolution.{before, is_resolved};
+ghost use Rattle.dds_brick_rows.specs.Resolution.{before, is_resolved};
 ghost use Rattle.dds_core.specs.Notice.{learns, is_lost, concerns_in, concerns, concerns_some, copies_again, order_goes, order_part, resolving_goes, resolvings_go, resolving_part, asked_again, asked_all_again, deferred_part, helped_by, pending_goes, numbered, pendings_go, pending_part, notice_row};
 
-use crate::brick_state::{BrickState, Deferred, OpenOrder, OrderPhase, Question, Resolving, Task};
-use crate::finishing::end;
-use crate::going_on::{copy, install_on, lease_on};
-use crate::nodes::{has, members, unknown_members, without};
-use crate::resolution::{help, is_resolved, query, resolve, resolve_on, unwait};
-use crate::turn::CoreTurn;
 use dds_base::brick_list::BrickList;
 use dds_base::items::Items;
 use dds_base::leaf::Leaf;
@@ -20,7 +14,15 @@ use dds_base::memory::Memory;
 use dds_base::number::{NodeNo, TxnNo};
 use dds_base::op::OrderReply;
 use dds_base::pending::Pending;
+use dds_brick_rows::resolution::{help, is_resolved, query, resolve, resolve_on, unwait};
 use dds_letters::letter::Letter;
+use dds_order_rows::finishing::end;
+use dds_order_rows::going_on::{copy, install_on, lease_on};
+use dds_states::brick_state::{
+    BrickState, Deferred, OpenOrder, OrderPhase, Question, Resolving, Task,
+};
+use dds_states::nodes::{has, members, unknown_members, without};
+use dds_states::turn::CoreTurn;
 use std::alloc::Global;
 
 /// Knows the node, and drops its leases.

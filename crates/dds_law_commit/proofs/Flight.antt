@@ -1,68 +1,87 @@
-use Rattle.std.proofs.Common.{◌≡◌, ℕ, ◌+◌, ◌<◌, Bool, true, false, List, [], ◌∷◌, ◌++◌, map, length}
-use Rattle.std.specs.List.{AllByRecursion}
+use Rattle.std.proofs.Common.{◌≡◌, ℕ, ◌+◌, ◌<◌, Bool, true, false, Option, Some, None, List, [], ◌∷◌, ◌++◌, map, length}
 use Rattle.std.specs.FinMap.{get}
+use Rattle.std.specs.List.{AllByRecursion}
 use Rattle.dds_base.specs.Number.{Txn}
 use Rattle.dds_base.specs.Op.{is_get, the_key}
+use Rattle.dds_base.specs.declared.number.CallNo.{CallNo}
 use Rattle.dds_base.specs.declared.op.Reply.{Reply}
 use Rattle.dds_base.specs.declared.op.Reply.TheVariants as reply
-use Rattle.dds_history.specs.Map.{Map, after, reply_to, flag_of}
+use Rattle.dds_brick_rows.specs.Calls.{answer_of}
 use Rattle.dds_history.specs.History.{replay, IsLegal}
+use Rattle.dds_history.specs.Map.{Map, after, flag_of, reply_to}
 use Rattle.dds_history.specs.declared.entry.Entry.{Entry}
-use Rattle.dds_letters.specs.declared.letter.Letter.{Letter}
-use Rattle.dds_letters.specs.declared.letter.Letter.TheVariants.{Got, Vote, Commit, Applied}
-use Rattle.dds_letters.specs.declared.refusal.Ballot.TheVariants.{Yes}
-use Rattle.dds_first_core.specs.declared.state.LibraryState.{LibraryState}
-use Rattle.dds_first_core.specs.declared.state.OpenCall.{OpenCall}
-use Rattle.dds_base.specs.declared.pending.Pending.{Pending}
-use Rattle.dds_first_core.specs.declared.state.Phase.TheVariants.{Committing}
-use Rattle.dds_first_core.specs.Brick.{answer_of}
-use Rattle.dds_first_core.specs.Library.{opened, first_letter}
-use Rattle.dds_script.specs.Grammar.{first_leaf}
+use Rattle.dds_letters.specs.declared.letter.Letter.TheVariants as letter
+use Rattle.dds_letters.specs.declared.refusal.Ballot.TheVariants as ballot
+use Rattle.dds_letters.specs.declared.refusal.Denial.TheVariants as denial
+use Rattle.dds_locks.specs.Outcomes.{OutcomeMap}
+use Rattle.dds_script.specs.Opening.{first_leaf, first_opening}
+use Rattle.dds_states.specs.declared.library_state.LibraryState.{LibraryState}
+use Rattle.dds_states.specs.declared.library_state.Phase.{Phase}
+use Rattle.dds_states.specs.declared.library_state.Phase.TheVariants.{Getting}
+use Rattle.dds_world.specs.Trace.{run_of}
 use Rattle.dds_world.specs.World.{World}
-use Rattle.dds_world.specs.Trace.{Trace, Asked, Made, Told}
-use Rattle.dds_world.specs.declared.step.Message.{Message}
+use Rattle.dds_world.specs.declared.step.Step.{Step}
+use Rattle.dds_world.specs.declared.trace.Asked.{Asked}
+use Rattle.dds_world.specs.declared.trace.Caller.{Caller}
+use Rattle.dds_world.specs.declared.trace.Made.{Made}
+use Rattle.dds_world.specs.declared.trace.Told.{Told}
+use Rattle.dds_world.specs.declared.trace.Trace.{Trace}
+use Rattle.dds_law_commit.proofs.Journals.{WasFull}
+use Rattle.dds_law_commit.proofs.Rows.{preparing, committing, aborting}
+use Rattle.dds_law_commit.proofs.Scene.{the_brick, the_library, the_txn, the_call, the_pending, first_letter, first_phase, at_rest, to_brick, to_library}
 
--- a call that was answered, with its one point
+-- The runs of the first opening: calls that were answered, and at most one that is open, whose letter is on its way.
+
+-- a call that was answered, with its points
 pub record Settled : Type 0 where
   pub asked : Asked
-  pub made : Made
+  pub made : List Made
   pub told : Told
 
--- the reply is a result
-abbrev pub IsResult : Reply → Type 0
-IsResult (reply.Value value) = Unit {0}
-IsResult reply.Absent = Unit {0}
-IsResult (reply.Done was) = Unit {0}
-IsResult (reply.Swapped done) = Unit {0}
-IsResult (reply.Again met) = ⊥
-IsResult (reply.Full brick) = ⊥
-IsResult (reply.Lost name) = ⊥
+-- a call has one point, with the reply that it was answered, between its Input and its answer
+pub record HasOnePoint (a : Asked) (made : List Made) (told : Told) : Type 0 where
+  pub point : Made
+  pub only : made ≡ point ∷ []
+  pub reply : point.entry.reply ≡ told.reply
+  pub after_input : a.place < point.place
+  pub before_answer : point.place < told.place
 
--- the three tell of one call, in their order
+-- what an answer says of the call's points: nothing is met here but a full leaf
+abbrev pub IsAnswered : Asked → List Made → Told → Reply → Type 0
+IsAnswered a made told (reply.Value value) = HasOnePoint a made told
+IsAnswered a made told reply.Absent = HasOnePoint a made told
+IsAnswered a made told (reply.Done was) = HasOnePoint a made told
+IsAnswered a made told (reply.Swapped done) = HasOnePoint a made told
+IsAnswered a made told (reply.Again met) = ⊥
+IsAnswered a made told (reply.Full brick) = made ≡ []
+IsAnswered a made told (reply.Lost name) = ⊥
+
+pub record IsPointOf (a : Asked) (txn : Txn) (m : Made) : Type 0 where
+  pub caller : m.entry.caller ≡ a.caller
+  pub call : m.entry.call ≡ a.call
+  pub op : m.entry.op ≡ a.op
+  pub of_txn : m.txn ≡ txn
+
+-- the three tell of one call
 pub record IsSettled (x : Settled) : Type 0 where
   pub caller : x.asked.caller ≡ 0
-  pub made_caller : x.made.entry.caller ≡ x.asked.caller
-  pub made_call : x.made.entry.call ≡ x.asked.call
-  pub made_op : x.made.entry.op ≡ x.asked.op
-  pub told_caller : x.told.answer.caller ≡ x.asked.caller
-  pub told_call : x.told.answer.call ≡ x.asked.call
-  pub told_txn : x.told.answer.txn ≡ x.made.txn
-  pub told_reply : x.told.answer.reply ≡ x.made.entry.reply
-  pub result : IsResult x.told.answer.reply
-  pub made_after : x.asked.place < x.made.place
-  pub told_after : x.made.place < x.told.place
+  pub told_caller : x.told.caller ≡ x.asked.caller
+  pub told_call : x.told.call ≡ x.asked.call
+  pub points : AllByRecursion (IsPointOf x.asked x.told.txn) x.made
+  pub answer : IsAnswered x.asked x.made x.told x.told.reply
 
 abbrev pub askeds : List Settled → List Asked
 askeds xs = map (λ x. x.asked) xs
 
 abbrev pub mades : List Settled → List Made
-mades xs = map (λ x. x.made) xs
+mades [] = []
+mades (x ∷ xs) = x.made ++ mades xs
 
 abbrev pub tolds : List Settled → List Told
 tolds xs = map (λ x. x.told) xs
 
 abbrev pub entries : List Settled → List Entry
-entries xs = map (λ x. x.made.entry) xs
+entries xs = map (λ m. m.entry) (mades xs)
 
 -- the table that the settled calls leave
 abbrev pub table : List Settled → Map
@@ -73,121 +92,157 @@ abbrev pub IsRising : List Settled → Type 0
 IsRising [] = Unit {0}
 IsRising (x ∷ xs) = AllByRecursion (λ y. x.asked.call.0 < y.asked.call.0) xs × IsRising xs
 
--- where the open call is: each with whether its letter is posted, the call, and (found, applied) its point's place
+-- how far the open call is: its first letter, what a get found, a vote, its commit, that it was applied; or that the
+-- leaf is full, its abort, and that it was aborted. Where it has its point, the place of it.
+pub data Stage : Type 0 where
+  asked : Stage
+  found : ℕ → Stage
+  voted : Stage
+  decided : Stage
+  applied : ℕ → Stage
+  denied : Stage
+  undone : Stage
+  aborted : Stage
+
+-- no call is open; or one is, whose letter lies in an outbox or was posted
 pub data Flight : Type 0 where
   idle : Flight
-  asked : Bool → Asked → Flight
-  found : Bool → Asked → ℕ → Flight
-  voted : Bool → Asked → Flight
-  decided : Bool → Asked → Flight
-  applied : Bool → Asked → ℕ → Flight
+  moving : Bool → Stage → Asked → Flight
 
--- a message in an outbox, or on a link
-abbrev pub boxed : Bool → Message → List Message
-boxed true m = []
-boxed false m = m ∷ []
-
-abbrev pub linked : Bool → Message → List Message
-linked true m = m ∷ []
-linked false m = []
-
-abbrev pub the_library : ℕ → List OpenCall → LibraryState
-the_library n cs = record { number = 64; leaf = first_leaf; next = n; calls = cs }
-
-abbrev pub the_world : Map → List Pending → LibraryState → List Message → List Message → List Message → List Message → ℕ → World
-the_world m ps library from_brick from_library to_brick to_library made =
-    record { bricks = record { number = 0; pairs = m; pending = ps } ∷ []; libraries = library ∷ []; outboxes = from_brick ∷ from_library ∷ []; links = ([] ∷ to_library ∷ []) ∷ (to_brick ∷ [] ∷ []) ∷ []; made = made }
-
--- the one letter is on its way to the brick, or to the library
-abbrev pub to_brick : Bool → Map → List Pending → LibraryState → ℕ → Letter → World
-to_brick posted m ps library k letter =
-    the_world m ps library [] (boxed posted (record { number = k; to = 0; letter = letter })) (linked posted (record { number = k; to = 0; letter = letter })) [] (k + 1)
-
-abbrev pub to_library : Bool → Map → List Pending → LibraryState → ℕ → Letter → World
-to_library posted m ps library k letter =
-    the_world m ps library (boxed posted (record { number = k; to = 64; letter = letter })) [] [] (linked posted (record { number = k; to = 64; letter = letter })) (k + 1)
-
-abbrev pub the_txn : List Settled → Txn
-the_txn xs = record { library = 64; number = length xs }
-
-abbrev pub the_call : List Settled → Asked → OpenCall
-the_call xs a = opened (the_library (length xs) []) a.caller a.call a.op
-
-abbrev pub the_committing : List Settled → Asked → OpenCall
-the_committing xs a = record (the_call xs a) { phase = Committing 0 }
-
-abbrev pub the_pending : List Settled → Asked → Pending
-the_pending xs a = record { txn = the_txn xs; caller = a.caller; call = a.call; op = a.op; list = first_leaf.list }
-
+-- the point of the open call
 abbrev pub the_point : List Settled → Asked → ℕ → Made
 the_point xs a place =
-    record { place = place; txn = the_txn xs; entry = record { caller = a.caller; call = a.call; op = a.op; reply = reply_to (table xs) a.op } }
+    record { place = place; txn = the_txn (length xs); entry = record { caller = a.caller; call = a.call; op = a.op; reply = reply_to (table xs) a.op } }
 
-abbrev pub world_in : List Settled → ℕ → Flight → World
-world_in xs k idle = the_world (table xs) [] (the_library (length xs) []) [] [] [] [] k
-world_in xs k (asked posted a) =
-    to_brick posted (table xs) [] (the_library (length xs + 1) (the_call xs a ∷ [])) k (first_letter (the_library (length xs) []) a.caller a.call a.op)
-world_in xs k (found posted a place) =
-    to_library posted (table xs) [] (the_library (length xs + 1) (the_call xs a ∷ [])) k (Got (the_txn xs) (answer_of (get (table xs) (the_key a.op))))
-world_in xs k (voted posted a) =
-    to_library posted (table xs) (the_pending xs a ∷ []) (the_library (length xs + 1) (the_call xs a ∷ [])) k (Vote (the_txn xs) Yes)
-world_in xs k (decided posted a) =
-    to_brick posted (table xs) (the_pending xs a ∷ []) (the_library (length xs + 1) (the_committing xs a ∷ [])) k (Commit (the_txn xs))
-world_in xs k (applied posted a place) =
-    to_library posted (after (table xs) a.op) [] (the_library (length xs + 1) (the_committing xs a ∷ [])) k (Applied (the_txn xs) (flag_of (get (table xs) (the_key a.op)) a.op))
+-- the library with the open call in a phase
+abbrev pub library_in : List Settled → Asked → Phase → LibraryState
+library_in xs a phase = the_library (length xs + 1) (the_call (length xs) a phase ∷ [])
+
+abbrev pub stage_world : List Settled → OutcomeMap → ℕ → Bool → Asked → Stage → World
+stage_world xs os k posted a asked =
+    to_brick posted (the_brick (table xs) [] os) (library_in xs a (first_phase a.op)) k (first_letter (length xs) a a.op)
+stage_world xs os k posted a (found place) =
+    to_library posted (the_brick (table xs) [] os) (library_in xs a (Getting first_leaf 0)) k (letter.Got (the_txn (length xs)) (answer_of (get (table xs) (the_key a.op))))
+stage_world xs os k posted a voted =
+    to_library posted (the_brick (table xs) (the_pending (length xs) a ∷ []) os) (library_in xs a preparing) k (letter.Vote (the_txn (length xs)) ballot.Yes)
+stage_world xs os k posted a decided =
+    to_brick posted (the_brick (table xs) (the_pending (length xs) a ∷ []) os) (library_in xs a committing) k (letter.Commit (the_txn (length xs)))
+stage_world xs os k posted a (applied place) =
+    to_library posted (the_brick (after (table xs) a.op) [] os) (library_in xs a committing) k (letter.Applied (the_txn (length xs)) (flag_of (get (table xs) (the_key a.op)) a.op))
+stage_world xs os k posted a denied =
+    to_library posted (the_brick (table xs) [] os) (library_in xs a preparing) k (letter.Vote (the_txn (length xs)) (ballot.No denial.Full))
+stage_world xs os k posted a undone =
+    to_brick posted (the_brick (table xs) [] os) (library_in xs a aborting) k (letter.Abort (the_txn (length xs)))
+stage_world xs os k posted a aborted =
+    to_library posted (the_brick (table xs) [] os) (library_in xs a aborting) k (letter.Aborted (the_txn (length xs)))
+
+abbrev pub world_in : List Settled → OutcomeMap → ℕ → Flight → World
+world_in xs os k idle = at_rest (the_brick (table xs) [] os) (the_library (length xs) []) k
+world_in xs os k (moving posted stage a) = stage_world xs os k posted a stage
+
+abbrev pub call_in : Flight → Option CallNo
+call_in idle = None
+call_in (moving posted stage a) = Some a.call
 
 abbrev pub asked_in : Flight → List Asked
 asked_in idle = []
-asked_in (asked posted a) = a ∷ []
-asked_in (found posted a place) = a ∷ []
-asked_in (voted posted a) = a ∷ []
-asked_in (decided posted a) = a ∷ []
-asked_in (applied posted a place) = a ∷ []
+asked_in (moving posted stage a) = a ∷ []
+
+-- the points of the open call
+abbrev pub stage_made : List Settled → Asked → Stage → List Made
+stage_made xs a asked = []
+stage_made xs a (found place) = the_point xs a place ∷ []
+stage_made xs a voted = []
+stage_made xs a decided = []
+stage_made xs a (applied place) = the_point xs a place ∷ []
+stage_made xs a denied = []
+stage_made xs a undone = []
+stage_made xs a aborted = []
 
 abbrev pub made_in : List Settled → Flight → List Made
 made_in xs idle = []
-made_in xs (asked posted a) = []
-made_in xs (found posted a place) = the_point xs a place ∷ []
-made_in xs (voted posted a) = []
-made_in xs (decided posted a) = []
-made_in xs (applied posted a place) = the_point xs a place ∷ []
+made_in xs (moving posted stage a) = stage_made xs a stage
 
--- the trace of these settled calls and this open one
-abbrev pub trace_in : List Settled → ℕ → ℕ → Flight → Trace
-trace_in xs steps k f =
-    record { world = world_in xs k f; steps = steps; asked = askeds xs ++ asked_in f; made = mades xs ++ made_in xs f; told = tolds xs }
+abbrev pub the_caller : ℕ → Option CallNo → Caller
+the_caller least call = record { library = 64; call = call; least = least }
+
+abbrev pub the_trace : World → ℕ → Caller → List Asked → List Made → List Told → Trace
+the_trace w n c qs ms rs = record { world = w; steps = n; callers = c ∷ []; asked = qs; made = ms; told = rs }
+
+-- the run of these settled calls and this open one
+abbrev pub trace_in : List Settled → ℕ → ℕ → ℕ → OutcomeMap → Flight → Trace
+trace_in xs n k least os f =
+    the_trace (world_in xs os k f) n (the_caller least (call_in f)) (askeds xs ++ asked_in f) (mades xs ++ made_in xs f) (tolds xs)
 
 -- the open call is the caller's newest
-pub record IsNewest (xs : List Settled) (steps : ℕ) (a : Asked) : Type 0 where
+pub record IsNewest (xs : List Settled) (n least : ℕ) (a : Asked) : Type 0 where
   pub caller : a.caller ≡ 0
   pub rises : AllByRecursion (λ x. x.asked.call.0 < a.call.0) xs
-  pub before : a.place < steps
+  pub before : a.place < n
+  pub last : least ≡ a.call.0 + 1
 
-pub record HasPoint (steps place : ℕ) (a : Asked) : Type 0 where
+pub record HasPoint (n place : ℕ) (a : Asked) : Type 0 where
   pub after : a.place < place
-  pub before : place < steps
+  pub before : place < n
 
-abbrev pub IsFlight : List Settled → ℕ → Flight → Type 0
-IsFlight xs steps idle = Unit {0}
-IsFlight xs steps (asked posted a) = IsNewest xs steps a
-IsFlight xs steps (found posted a place) = IsNewest xs steps a × HasPoint steps place a × (is_get a.op ≡ true)
-IsFlight xs steps (voted posted a) = IsNewest xs steps a × (is_get a.op ≡ false)
-IsFlight xs steps (decided posted a) = IsNewest xs steps a × (is_get a.op ≡ false)
-IsFlight xs steps (applied posted a place) = IsNewest xs steps a × HasPoint steps place a × (is_get a.op ≡ false)
+abbrev pub IsStage : ℕ → Asked → Stage → Type 0
+IsStage n a asked = Unit {0}
+IsStage n a (found place) = HasPoint n place a × (is_get a.op ≡ true)
+IsStage n a voted = is_get a.op ≡ false
+IsStage n a decided = is_get a.op ≡ false
+IsStage n a (applied place) = HasPoint n place a × (is_get a.op ≡ false)
+IsStage n a denied = is_get a.op ≡ false
+IsStage n a undone = is_get a.op ≡ false
+IsStage n a aborted = is_get a.op ≡ false
+
+abbrev pub IsFlight : List Settled → ℕ → ℕ → Flight → Type 0
+IsFlight xs n least idle = Unit {0}
+IsFlight xs n least (moving posted stage a) = IsNewest xs n least a × IsStage n a stage
+
+-- a call that was answered Full met a full leaf
+abbrev pub FullIf : List Step → Settled → Reply → Type 0
+FullIf journal x (reply.Value value) = Unit {0}
+FullIf journal x reply.Absent = Unit {0}
+FullIf journal x (reply.Done was) = Unit {0}
+FullIf journal x (reply.Swapped done) = Unit {0}
+FullIf journal x (reply.Again met) = Unit {0}
+FullIf journal x (reply.Full brick) = (brick ≡ 0) × WasFull journal x.asked x.told.place
+FullIf journal x (reply.Lost name) = Unit {0}
+
+-- and so did an open one that was denied
+abbrev pub StageFull : List Step → ℕ → Asked → Stage → Type 0
+StageFull journal n a asked = Unit {0}
+StageFull journal n a (found place) = Unit {0}
+StageFull journal n a voted = Unit {0}
+StageFull journal n a decided = Unit {0}
+StageFull journal n a (applied place) = Unit {0}
+StageFull journal n a denied = WasFull journal a n
+StageFull journal n a undone = WasFull journal a n
+StageFull journal n a aborted = WasFull journal a n
+
+abbrev pub FlightFull : List Step → ℕ → Flight → Type 0
+FlightFull journal n idle = Unit {0}
+FlightFull journal n (moving posted stage a) = StageFull journal n a stage
 
 -- what is true of the settled calls and the open one
-pub record IsRight (xs : List Settled) (steps : ℕ) (f : Flight) : Type 0 where
+pub record IsRight (journal : List Step) (xs : List Settled) (n least : ℕ) (f : Flight) : Type 0 where
+  pub count : length journal ≡ n
   pub each : AllByRecursion IsSettled xs
   pub rising : IsRising xs
-  pub numbers : AllByRecursion (λ x. (x.made.txn.library ≡ 64) × (x.made.txn.number < length xs)) xs
+  pub below : AllByRecursion (λ x. x.asked.call.0 < least) xs
+  pub numbers : AllByRecursion (λ x. (x.told.txn.library ≡ 64) × (x.told.txn.number < length xs)) xs
   pub legal : IsLegal (entries xs)
-  pub open_call : IsFlight xs steps f
+  pub fulls : AllByRecursion (λ x. FullIf journal x x.told.reply) xs
+  pub open_call : IsFlight xs n least f
+  pub open_full : FlightFull journal n f
 
--- what is true of each trace that a run reaches
-pub record IsGood (t : Trace) : Type 0 where
+-- what is true of each journal of plain steps
+pub record IsGood (journal : List Step) : Type 0 where
   pub settled : List Settled
   pub steps : ℕ
   pub letters : ℕ
+  pub least : ℕ
+  pub outcomes : OutcomeMap
   pub flight : Flight
-  pub is : t ≡ trace_in settled steps letters flight
-  pub right : IsRight settled steps flight
+  pub is : run_of first_opening journal ≡ trace_in settled steps letters least outcomes flight
+  pub right : IsRight journal settled steps least flight

@@ -1,32 +1,29 @@
-use Rattle.std.proofs.Common.{◌≡◌, ℕ, ◌+◌, ◌<◌, ◌⊎◌, inl, inr, Bool, true, false, not, ◌&&◌, eqb, List, [], ◌∷◌, ◌++◌, length, refl, sym, ap, subst, arith, ◌==◌}
+use Rattle.std.proofs.Common.{◌≡◌, ℕ, ◌+◌, ◌<◌, ◌≤◌, ◌&&◌, Bool, true, false, not, eqb, List, [], ◌∷◌, ◌++◌, length, map, refl, sym, ap, subst, ◌∙◌, arith, length-append}
 use Rattle.std.proofs.lemmas.Bool.Decides.{nat_tests}
-use Rattle.std.specs.List.{AllByRecursion, list_any}
-use Rattle.dds_base.specs.Op.{is_get}
-use Rattle.dds_base.specs.declared.number.CallNo.{CallNo}
-use Rattle.dds_base.specs.declared.op.Op.{Op}
-use Rattle.dds_base.specs.declared.op.Op.TheVariants as op
-use Rattle.dds_base.specs.declared.op.Reply.{Reply}
-use Rattle.dds_history.proofs.Histories.{legal_from-push}
+use Rattle.std.proofs.lemmas.List.{map-append, append-nil, append_assoc}
 use Rattle.std.specs.FinMap.{empty}
-use Rattle.std.specs.Prelude.{Option, Some, None}
-use Rattle.std.specs.FinMap.{get}
-use Rattle.dds_base.specs.Number.{same_txn}
-use Rattle.dds_history.specs.Map.{found as found_reply, reply_to}
-use Rattle.dds_world.specs.World.{World}
-use Rattle.dds_world.specs.Trace.{Asked, next, is_applied}
-use Rattle.dds_world.specs.Stands.{IsNode, is_open_call, answers}
-use Rattle.dds_world.specs.declared.step.Input.TheVariants.{Call}
-use Rattle.dds_world.specs.declared.step.Step.TheVariants as step
-use Rattle.dds_law_commit.proofs.Lists.{all-push, all-weaker, all-both, all-map, all-front, all-unmap, any-last, any-none}
-use Rattle.dds_law_commit.proofs.Flight.{Settled, IsSettled, IsRising, IsResult, entries, table, Flight, idle, asked, found, voted, decided, applied, trace_in, askeds, mades, tolds, the_point, the_txn, IsNewest, HasPoint, IsFlight, IsRight, IsGood}
-use Rattle.dds_law_commit.proofs.Steps.{nil, answered, entries-push, length-push, new_call, step-input, get-asked, put-asked, remove-asked, swap-asked, vote-put, vote-remove, vote-swap, commit-put, commit-remove, commit-swap, got-found, applied-put, applied-remove, applied-swap}
+use Rattle.std.specs.List.{AllByRecursion}
+use Rattle.dds_base.specs.Number.{Txn, same_txn}
+use Rattle.dds_base.specs.Op.{is_get}
+use Rattle.dds_base.specs.declared.op.Reply.{Reply}
+use Rattle.dds_base.specs.declared.op.Reply.TheVariants as reply
+use Rattle.dds_history.proofs.Histories.{legal_from-push, replay_from-append}
+use Rattle.dds_history.specs.History.{IsLegal}
+use Rattle.dds_history.specs.Map.{after, reply_to}
+use Rattle.dds_world.specs.Trace.{is_applied}
+use Rattle.dds_world.specs.declared.step.Step.{Step}
+use Rattle.dds_world.specs.declared.trace.Asked.{Asked}
+use Rattle.dds_world.specs.declared.trace.Made.{Made}
+use Rattle.dds_world.specs.declared.trace.Told.{Told}
+use Rattle.dds_law_commit.proofs.Lists.{all-push, all-weaker, all-both, all-append, any-none}
+use Rattle.dds_law_commit.proofs.Flight.{Settled, IsSettled, HasOnePoint, IsAnswered, IsPointOf, IsRising, mades, entries, table, Flight, idle, moving, asked, the_point, IsNewest, HasPoint, IsFlight, FullIf, FlightFull, IsRight}
+use Rattle.dds_law_commit.proofs.Journals.{WasFull, full-later}
+use Rattle.dds_law_commit.proofs.Scene.{the_txn}
 
--- the two nodes
-pub two-nodes : (w : World) (node : ℕ) → length w.bricks ≡ 1 → length w.libraries ≡ 1 → IsNode w node → (node ≡ 0) ⊎ (node ≡ 64)
-two-nodes w node b l h = elim h [ inl x ↦ inl (omega arith) | inr y ↦ inr (omega (arith, y.0, y.1)) ]
+-- What stays true of settled calls when one more is settled.
 
-pub newest-later : (xs : List Settled) (n : ℕ) (a : Asked) → IsNewest xs n a → IsNewest xs (n + 1) a
-newest-later xs n a h = record { caller = h.caller; rises = h.rises; before = omega (arith, h.before) }
+pub newest-later : (xs : List Settled) (n least : ℕ) (a : Asked) → IsNewest xs n least a → IsNewest xs (n + 1) least a
+newest-later xs n least a h = record { caller = h.caller; rises = h.rises; before = omega (arith, h.before); last = h.last }
 
 pub point-later : (n p : ℕ) (a : Asked) → HasPoint n p a → HasPoint (n + 1) p a
 point-later n p a h = record { after = h.after; before = omega (arith, h.before) }
@@ -34,134 +31,143 @@ point-later n p a h = record { after = h.after; before = omega (arith, h.before)
 pub point-now : (n : ℕ) (a : Asked) → a.place < n → HasPoint (n + 1) n a
 point-now n a h = record { after = h; before = omega arith }
 
-pub moved : (xs : List Settled) (n m : ℕ) (f g : Flight) → IsRight xs n f → IsFlight xs m g → IsRight xs m g
-moved xs n m f g h k = record { each = h.each; rising = h.rising; numbers = h.numbers; legal = h.legal; open_call = k }
+-- what a journal says of full leaves still holds when it has one step more
+full-if-later : (journal : List Step) (s : Step) (x : Settled) (r : Reply) → FullIf journal x r → FullIf (journal ++ s ∷ []) x r
+full-if-later journal s x (reply.Value value) h = tt
+full-if-later journal s x reply.Absent h = tt
+full-if-later journal s x (reply.Done was) h = tt
+full-if-later journal s x (reply.Swapped done) h = tt
+full-if-later journal s x (reply.Again met) h = tt
+full-if-later journal s x (reply.Full brick) h = (h.0, full-later journal s x.asked x.told.place x.told.place (omega arith) h.1)
+full-if-later journal s x (reply.Lost name) h = tt
+
+fulls-later : (journal : List Step) (s : Step) (xs : List Settled) → AllByRecursion (λ x. FullIf journal x x.told.reply) xs → AllByRecursion (λ x. FullIf (journal ++ s ∷ []) x x.told.reply) xs
+fulls-later journal s xs h = all-weaker (λ x. FullIf journal x x.told.reply) (λ x. FullIf (journal ++ s ∷ []) x x.told.reply) (λ x k. full-if-later journal s x x.told.reply k) xs h
+
+pub count-later : (journal : List Step) (s : Step) (n : ℕ) → length journal ≡ n → length (journal ++ s ∷ []) ≡ n + 1
+count-later journal s n is = let longer : length (journal ++ s ∷ []) ≡ length journal + 1 = simp length-append in omega (arith, longer, is)
+
+-- the open call moves on
+pub moved : (journal : List Step) (s : Step) (xs : List Settled) (n least : ℕ) (f g : Flight) → IsRight journal xs n least f → IsFlight xs (n + 1) least g → FlightFull (journal ++ s ∷ []) (n + 1) g → IsRight (journal ++ s ∷ []) xs (n + 1) least g
+moved journal s xs n least f g h k full =
+    record { count = count-later journal s n h.count; each = h.each; rising = h.rising; below = h.below; numbers = h.numbers; legal = h.legal; fulls = fulls-later journal s xs h.fulls; open_call = k; open_full = full }
+
+-- a call comes
+pub asked-now : (journal : List Step) (s : Step) (xs : List Settled) (n least more : ℕ) (a : Asked) → IsRight journal xs n least idle → least ≤ a.call.0 → IsNewest xs (n + 1) more a → IsRight (journal ++ s ∷ []) xs (n + 1) more (moving false asked a)
+asked-now journal s xs n least more a h le new =
+    let last = new.last in
+    record { count = count-later journal s n h.count; each = h.each; rising = h.rising; below = all-weaker (λ (x : Settled). x.asked.call.0 < least) (λ x. x.asked.call.0 < more) (λ x k. omega (arith, k, le, last)) xs h.below; numbers = h.numbers; legal = h.legal; fulls = fulls-later journal s xs h.fulls; open_call = (new, tt); open_full = tt }
 
 rising-push : (xs : List Settled) (x : Settled) → IsRising xs → AllByRecursion (λ y. y.asked.call.0 < x.asked.call.0) xs → IsRising (xs ++ x ∷ [])
 rising-push [] x h k = (tt, tt)
 rising-push (y ∷ xs) x h k = (all-push (λ z. y.asked.call.0 < z.asked.call.0) xs x h.0 k.0, rising-push xs x h.1 k.1)
 
-numbers-push : (xs : List Settled) (x : Settled) (n : ℕ) → n ≡ length xs → x.made.txn.library ≡ 64 → x.made.txn.number ≡ n → AllByRecursion (λ y. (y.made.txn.library ≡ 64) × (y.made.txn.number < n)) xs → AllByRecursion (λ y. (y.made.txn.library ≡ 64) × (y.made.txn.number < n + 1)) (xs ++ x ∷ [])
-numbers-push xs x n is l e h = all-push (λ y. (y.made.txn.library ≡ 64) × (y.made.txn.number < n + 1)) xs x (all-weaker (λ y. (y.made.txn.library ≡ 64) × (y.made.txn.number < n)) (λ y. (y.made.txn.library ≡ 64) × (y.made.txn.number < n + 1)) (λ y k. (k.0, omega (arith, k.1))) xs h) (l, omega (arith, e))
+abbrev IsNumbered : ℕ → Settled → Type 0
+IsNumbered n x = (x.told.txn.library ≡ 64) × (x.told.txn.number < n)
 
--- a call is settled
-pub settle : (xs : List Settled) (n p : ℕ) (f : Flight) (a : Asked) (r : Reply) → IsRight xs n f → IsNewest xs n a → HasPoint n p a → r ≡ (the_point xs a p).entry.reply → IsResult r → IsRight (xs ++ answered xs n p a r ∷ []) (n + 1) idle
-settle xs n p f a r right new point same result =
-    let x = answered xs n p a r in
+numbers-push : (xs : List Settled) (x : Settled) (n : ℕ) → x.told.txn ≡ the_txn n → AllByRecursion (IsNumbered n) xs → AllByRecursion (IsNumbered (n + 1)) (xs ++ x ∷ [])
+numbers-push xs x n is h =
+    let l : x.told.txn.library ≡ 64 = ap (λ (t : Txn). t.library) is in
+    let m : x.told.txn.number ≡ n = ap (λ (t : Txn). t.number) is in
+    all-push (IsNumbered (n + 1)) xs x (all-weaker (IsNumbered n) (IsNumbered (n + 1)) (λ y k. (k.0, omega (arith, k.1))) xs h) (l, omega (arith, m))
+
+pub mades-push : (xs : List Settled) (x : Settled) → mades (xs ++ x ∷ []) ≡ mades xs ++ x.made
+mades-push [] x = append-nil x.made
+mades-push (y ∷ xs) x = ap (λ t. y.made ++ t) (mades-push xs x) ∙ sym (append_assoc y.made (mades xs) x.made)
+
+pub entries-push : (xs : List Settled) (x : Settled) → entries (xs ++ x ∷ []) ≡ entries xs ++ map (λ m. m.entry) x.made
+entries-push xs x = ap (map (λ (m : Made). m.entry)) (mades-push xs x) ∙ map-append (λ (m : Made). m.entry) (mades xs) x.made
+
+pub length-push : (xs : List Settled) (x : Settled) → length (xs ++ x ∷ []) ≡ length xs + 1
+length-push xs x = simp length-append
+
+-- the table behind one more call: its operation was applied to it, or it has no point
+pub table-push : (xs : List Settled) (a : Asked) (m : Made) (told : Told) → table (xs ++ record { asked = a; made = m ∷ []; told = told } ∷ []) ≡ after (table xs) m.entry.op
+table-push xs a m told = rw (entries-push xs (record { asked = a; made = m ∷ []; told = told })) (replay_from-append empty (entries xs) (m.entry ∷ []))
+
+pub table-kept : (xs : List Settled) (a : Asked) (told : Told) → table (xs ++ record { asked = a; made = []; told = told } ∷ []) ≡ table xs
+table-kept xs a told = rw (entries-push xs (record { asked = a; made = []; told = told }), append-nil (entries xs)) refl
+
+-- a call is settled, with its points
+settle : (journal : List Step) (s : Step) (xs : List Settled) (n least : ℕ) (f : Flight) (x : Settled) → IsRight journal xs n least f → IsSettled x → AllByRecursion (λ y. y.asked.call.0 < x.asked.call.0) xs → x.asked.call.0 < least → x.told.txn ≡ the_txn (length xs) → IsLegal (entries (xs ++ x ∷ [])) → FullIf (journal ++ s ∷ []) x x.told.reply → IsRight (journal ++ s ∷ []) (xs ++ x ∷ []) (n + 1) least idle
+settle journal s xs n least f x right settled rises last txn legal full =
     record {
-      each = all-push IsSettled xs x right.each (record { caller = new.caller; made_caller = refl; made_call = refl; made_op = refl; told_caller = refl; told_call = refl; told_txn = refl; told_reply = same; result = result; made_after = point.after; told_after = point.before });
-      rising = rising-push xs x right.rising new.rises;
-      numbers = subst (λ m. AllByRecursion (λ y. (y.made.txn.library ≡ 64) × (y.made.txn.number < m)) (xs ++ x ∷ [])) (sym (length-push xs x)) (numbers-push xs x (length xs) refl refl refl right.numbers);
-      legal = rw (entries-push xs x) (legal_from-push empty (entries xs) x.made.entry right.legal refl);
+      count = count-later journal s n right.count;
+      each = all-push IsSettled xs x right.each settled;
+      rising = rising-push xs x right.rising rises;
+      below = all-push (λ y. y.asked.call.0 < least) xs x right.below last;
+      numbers = subst (λ m. AllByRecursion (IsNumbered m) (xs ++ x ∷ [])) (sym (length-push xs x)) (numbers-push xs x (length xs) txn right.numbers);
+      legal = legal;
+      fulls = all-push (λ y. FullIf (journal ++ s ∷ []) y y.told.reply) xs x (fulls-later journal s xs right.fulls) full;
       open_call = tt;
+      open_full = tt;
     }
 
-pub and-false : (b : Bool) → (b && false) ≡ false
-and-false true = refl
-and-false false = refl
+-- the answer of the open call
+abbrev pub the_told : List Settled → ℕ → Asked → Reply → Told
+the_told xs n a r = record { place = n; txn = the_txn (length xs); caller = a.caller; call = a.call; reply = r }
 
--- with an open call, no call is possible
-pub told-before : (x : Settled) (a : Asked) → IsSettled x → x.asked.call.0 < a.call.0 → answers x.told a.caller a.call ≡ false
-told-before x a s h =
-    let c : x.told.answer.call.0 ≡ x.asked.call.0 = ap (λ (k : CallNo). k.0) s.told_call in
-    let e : eqb x.told.answer.call.0 a.call.0 ≡ false = grind (arith, nat_tests, c, h) in
-    rw e (and-false (eqb x.told.answer.caller a.caller))
+abbrev pub answered : List Settled → ℕ → ℕ → Asked → Reply → Settled
+answered xs n p a r = record { asked = a; made = the_point xs a p ∷ []; told = the_told xs n a r }
 
-pub open-now : (xs : List Settled) (a : Asked) → AllByRecursion IsSettled xs → AllByRecursion (λ x. x.asked.call.0 < a.call.0) xs → is_open_call (tolds xs) a ≡ true
-open-now xs a each rises =
-    ap not (any-none (λ r. answers r a.caller a.call) (tolds xs) (all-map (λ (x : Settled). x.told) (λ r. answers r a.caller a.call ≡ false) xs (all-weaker (λ x. IsSettled x × (x.asked.call.0 < a.call.0)) (λ x. answers x.told a.caller a.call ≡ false) (λ x h. told-before x a h.0 h.1) xs (all-both IsSettled (λ x. x.asked.call.0 < a.call.0) xs each rises))))
+abbrev pub refused : List Settled → ℕ → Asked → Settled
+refused xs n a = record { asked = a; made = []; told = the_told xs n a (reply.Full 0) }
 
-pub is-open : (xs : List Settled) (n : ℕ) (a : Asked) (caller : ℕ) → AllByRecursion IsSettled xs → IsNewest xs n a → caller ≡ 0 → list_any (λ b. b.caller == caller && is_open_call (tolds xs) b) (askeds xs ++ a ∷ []) ≡ true
-is-open xs n a caller each new zero_ = any-last (λ b. b.caller == caller && is_open_call (tolds xs) b) (askeds xs) a (let e : eqb a.caller caller ≡ true = grind (arith, nat_tests, zero_, new.caller) in rw (e, open-now xs a each new.rises) refl)
+-- the reply is a result
+abbrev pub IsResult : Reply → Type 0
+IsResult (reply.Value value) = Unit {0}
+IsResult reply.Absent = Unit {0}
+IsResult (reply.Done was) = Unit {0}
+IsResult (reply.Swapped done) = Unit {0}
+IsResult (reply.Again met) = ⊥
+IsResult (reply.Full brick) = ⊥
+IsResult (reply.Lost name) = ⊥
 
-pub no : (b : Bool) → b ≡ true → b ≡ false → ⊥
-no b e f = cc
+result-answers : (a : Asked) (made : List Made) (told : Told) (r : Reply) → IsResult r → HasOnePoint a made told → IsAnswered a made told r
+result-answers a made told (reply.Value v) i h = h
+result-answers a made told reply.Absent i h = h
+result-answers a made told (reply.Done w) i h = h
+result-answers a made told (reply.Swapped d) i h = h
+result-answers a made told (reply.Again m) i h = absurd i
+result-answers a made told (reply.Full b) i h = absurd i
+result-answers a made told (reply.Lost n) i h = absurd i
 
--- the steps at rest
-rises-at : (xs : List Settled) (call : CallNo) → AllByRecursion IsSettled xs → AllByRecursion (λ (a : Asked). a.caller ≡ 0 → a.call.0 < call.0) (askeds xs ++ []) → AllByRecursion (λ x. x.asked.call.0 < call.0) xs
-rises-at xs call each h = all-weaker (λ x. IsSettled x × (x.asked.caller ≡ 0 → x.asked.call.0 < call.0)) (λ x. x.asked.call.0 < call.0) (λ x k. k.1 k.0.caller) xs (all-both IsSettled (λ x. x.asked.caller ≡ 0 → x.asked.call.0 < call.0) xs each (all-unmap (λ (x : Settled). x.asked) (λ a. a.caller ≡ 0 → a.call.0 < call.0) xs (all-front (λ a. a.caller ≡ 0 → a.call.0 < call.0) (askeds xs) [] h)))
+result-full : (journal : List Step) (x : Settled) (r : Reply) → IsResult r → FullIf journal x r
+result-full journal x (reply.Value v) i = tt
+result-full journal x reply.Absent i = tt
+result-full journal x (reply.Done w) i = tt
+result-full journal x (reply.Swapped d) i = tt
+result-full journal x (reply.Again m) i = tt
+result-full journal x (reply.Full b) i = absurd i
+result-full journal x (reply.Lost n) i = tt
 
-pub good-input : (xs : List Settled) (n k caller : ℕ) (call : CallNo) (o : Op) (node : ℕ) → IsRight xs n idle → caller ≡ 0 → node ≡ 64 → AllByRecursion (λ (a : Asked). a.caller ≡ caller → a.call.0 < call.0) (askeds xs ++ []) → IsGood (next (trace_in xs n k idle) (step.Input node (Call caller call o)))
-good-input xs n k caller call o node right z at rises =
-    subst (λ v. IsGood (next (trace_in xs n k idle) (step.Input v (Call caller call o)))) (sym at) (record { settled = xs; steps = n + 1; letters = k; flight = asked false (new_call n caller call o); is = step-input xs n k caller call o; right = moved xs n (n + 1) idle (asked false (new_call n caller call o)) right (record { caller = z; rises = rises-at xs call right.each (rw z at rises); before = omega arith }) })
+pub settle-result : (journal : List Step) (s : Step) (xs : List Settled) (n least p : ℕ) (f : Flight) (a : Asked) (r : Reply) → IsRight journal xs n least f → IsNewest xs n least a → HasPoint n p a → r ≡ reply_to (table xs) a.op → IsResult r → IsRight (journal ++ s ∷ []) (xs ++ answered xs n p a r ∷ []) (n + 1) least idle
+settle-result journal s xs n least p f a r right new point same result =
+    let x = answered xs n p a r in
+    let last = new.last in
+    settle journal s xs n least f x right (record { caller = new.caller; told_caller = refl; told_call = refl; points = (record { caller = refl; call = refl; op = refl; of_txn = refl }, tt); answer = result-answers a x.made x.told r result (record { point = the_point xs a p; only = refl; reply = sym same; after_input = point.after; before_answer = point.before }) }) new.rises (omega (arith, last)) refl (rw (entries-push xs x) (legal_from-push empty (entries xs) (the_point xs a p).entry right.legal refl)) (result-full (journal ++ s ∷ []) x r result)
 
--- the brick takes the letter by which a call begins
-pub good-asked : (xs : List Settled) (n k place caller : ℕ) (call : CallNo) (o : Op) → IsRight xs n (asked true (new_call place caller call o)) → IsGood (next (trace_in xs n k (asked true (new_call place caller call o))) (step.Handle 0 64))
-good-asked xs n k place caller call (op.Get key) right =
-    let a = new_call place caller call (op.Get key) in
-    record { settled = xs; steps = n + 1; letters = k + 1; flight = found false a n; is = get-asked xs n k place caller call key; right = moved xs n (n + 1) _ (found false a n) right (newest-later xs n a right.open_call, point-now n a right.open_call.before, refl) }
-good-asked xs n k place caller call (op.Put key value) right =
-    let a = new_call place caller call (op.Put key value) in
-    record { settled = xs; steps = n + 1; letters = k + 1; flight = voted false a; is = put-asked xs n k place caller call key value; right = moved xs n (n + 1) _ (voted false a) right (newest-later xs n a right.open_call, refl) }
-good-asked xs n k place caller call (op.Remove key) right =
-    let a = new_call place caller call (op.Remove key) in
-    record { settled = xs; steps = n + 1; letters = k + 1; flight = voted false a; is = remove-asked xs n k place caller call key; right = moved xs n (n + 1) _ (voted false a) right (newest-later xs n a right.open_call, refl) }
-good-asked xs n k place caller call (op.Swap key expected value) right =
-    let a = new_call place caller call (op.Swap key expected value) in
-    record { settled = xs; steps = n + 1; letters = k + 1; flight = voted false a; is = swap-asked xs n k place caller call key expected value; right = moved xs n (n + 1) _ (voted false a) right (newest-later xs n a right.open_call, refl) }
+pub settle-refusal : (journal : List Step) (s : Step) (xs : List Settled) (n least : ℕ) (f : Flight) (a : Asked) → IsRight journal xs n least f → IsNewest xs n least a → WasFull journal a n → IsRight (journal ++ s ∷ []) (xs ++ refused xs n a ∷ []) (n + 1) least idle
+settle-refusal journal s xs n least f a right new full =
+    let x = refused xs n a in
+    let last = new.last in
+    settle journal s xs n least f x right (record { caller = new.caller; told_caller = refl; told_call = refl; points = tt; answer = refl }) new.rises (omega (arith, last)) refl (rw (entries-push xs x, append-nil (entries xs)) right.legal) (refl, full-later journal s a n n (omega arith) full)
 
--- the library takes the vote
-pub good-voted : (xs : List Settled) (n k place caller : ℕ) (call : CallNo) (o : Op) → IsRight xs n (voted true (new_call place caller call o)) → IsGood (next (trace_in xs n k (voted true (new_call place caller call o))) (step.Handle 64 0))
-good-voted xs n k place caller call (op.Get key) right = absurd (no true refl right.open_call.1)
-good-voted xs n k place caller call (op.Put key value) right =
-    let a = new_call place caller call (op.Put key value) in
-    record { settled = xs; steps = n + 1; letters = k + 1; flight = decided false a; is = vote-put xs n k place caller call key value; right = moved xs n (n + 1) _ (decided false a) right (newest-later xs n a right.open_call.0, refl) }
-good-voted xs n k place caller call (op.Remove key) right =
-    let a = new_call place caller call (op.Remove key) in
-    record { settled = xs; steps = n + 1; letters = k + 1; flight = decided false a; is = vote-remove xs n k place caller call key; right = moved xs n (n + 1) _ (decided false a) right (newest-later xs n a right.open_call.0, refl) }
-good-voted xs n k place caller call (op.Swap key expected value) right =
-    let a = new_call place caller call (op.Swap key expected value) in
-    record { settled = xs; steps = n + 1; letters = k + 1; flight = decided false a; is = vote-swap xs n k place caller call key expected value; right = moved xs n (n + 1) _ (decided false a) right (newest-later xs n a right.open_call.0, refl) }
+-- a fact of all points of all calls
+pub all-mades : (P : Made → Type 0) (xs : List Settled) → AllByRecursion (λ x. AllByRecursion P x.made) xs → AllByRecursion P (mades xs)
+all-mades P [] h = tt
+all-mades P (x ∷ xs) h = all-append P x.made (mades xs) h.0 (all-mades P xs h.1)
 
+-- the attempt has no point yet
 and-middle : (b c : Bool) → ((b && false) && c) ≡ false
 and-middle true c = refl
 and-middle false c = refl
 
--- the attempt has no point yet
-pub not-applied : (xs : List Settled) (n : ℕ) → n ≡ length xs → AllByRecursion (λ x. (x.made.txn.library ≡ 64) × (x.made.txn.number < n)) xs → is_applied (mades xs ++ []) (the_txn xs) ≡ false
-not-applied xs n is h =
-    rw (nil (mades xs)) (any-none (λ m. same_txn m.txn (the_txn xs) && not (is_get m.entry.op)) (mades xs) (all-map (λ (x : Settled). x.made) (λ m. (same_txn m.txn (the_txn xs) && not (is_get m.entry.op)) ≡ false) xs (all-weaker (λ x. (x.made.txn.library ≡ 64) × (x.made.txn.number < n)) (λ x. (same_txn x.made.txn (the_txn xs) && not (is_get x.made.entry.op)) ≡ false) (λ x k. let e : eqb x.made.txn.number (length xs) ≡ false = grind (arith, nat_tests, k.1, is) in rw e (and-middle (eqb x.made.txn.library 64) (not (is_get x.made.entry.op)))) xs h)))
+other-txn : (n : ℕ) (t : Txn) (m : Made) (b : Bool) → m.txn ≡ t → t.number < n → (same_txn m.txn (the_txn n) && b) ≡ false
+other-txn n t m b is h =
+    let s : m.txn.number ≡ t.number = ap (λ (v : Txn). v.number) is in
+    let e : eqb m.txn.number n ≡ false = grind (arith, nat_tests, s, h) in
+    rw e (and-middle (eqb m.txn.library 64) b)
 
--- the brick takes the commit
-pub good-decided : (xs : List Settled) (n k place caller : ℕ) (call : CallNo) (o : Op) → IsRight xs n (decided true (new_call place caller call o)) → IsGood (next (trace_in xs n k (decided true (new_call place caller call o))) (step.Handle 0 64))
-good-decided xs n k place caller call (op.Get key) right = absurd (no true refl right.open_call.1)
-good-decided xs n k place caller call (op.Put key value) right =
-    let a = new_call place caller call (op.Put key value) in
-    record { settled = xs; steps = n + 1; letters = k + 1; flight = applied false a n; is = commit-put xs n k place caller call key value (not-applied xs _ refl right.numbers); right = moved xs n (n + 1) _ (applied false a n) right (newest-later xs n a right.open_call.0, point-now n a right.open_call.0.before, refl) }
-good-decided xs n k place caller call (op.Remove key) right =
-    let a = new_call place caller call (op.Remove key) in
-    record { settled = xs; steps = n + 1; letters = k + 1; flight = applied false a n; is = commit-remove xs n k place caller call key (not-applied xs _ refl right.numbers); right = moved xs n (n + 1) _ (applied false a n) right (newest-later xs n a right.open_call.0, point-now n a right.open_call.0.before, refl) }
-good-decided xs n k place caller call (op.Swap key expected value) right =
-    let a = new_call place caller call (op.Swap key expected value) in
-    record { settled = xs; steps = n + 1; letters = k + 1; flight = applied false a n; is = commit-swap xs n k place caller call key expected value (not-applied xs _ refl right.numbers); right = moved xs n (n + 1) _ (applied false a n) right (newest-later xs n a right.open_call.0, point-now n a right.open_call.0.before, refl) }
-
--- a get's reply is a result
-pub result-found : (o : Option (List ℕ)) → IsResult (found_reply o)
-result-found None = tt
-result-found (Some value) = tt
-
--- the library answers a get
-pub good-found : (xs : List Settled) (n k place caller p : ℕ) (call : CallNo) (o : Op) → IsRight xs n (found true (new_call place caller call o) p) → IsGood (next (trace_in xs n k (found true (new_call place caller call o) p)) (step.Handle 64 0))
-good-found xs n k place caller p call (op.Get key) right =
-    let a = new_call place caller call (op.Get key) in
-    let r = found_reply (get (table xs) key) in
-    record { settled = xs ++ answered xs n p a r ∷ []; steps = n + 1; letters = k + 1; flight = idle; is = got-found xs n k p place caller call key; right = settle xs n p _ a r right right.open_call.0 right.open_call.1 refl (result-found (get (table xs) key)) }
-good-found xs n k place caller p call (op.Put key value) right = absurd (no false right.open_call.2 refl)
-good-found xs n k place caller p call (op.Remove key) right = absurd (no false right.open_call.2 refl)
-good-found xs n k place caller p call (op.Swap key expected value) right = absurd (no false right.open_call.2 refl)
-
--- the library answers an update
-pub good-applied : (xs : List Settled) (n k place caller p : ℕ) (call : CallNo) (o : Op) → IsRight xs n (applied true (new_call place caller call o) p) → IsGood (next (trace_in xs n k (applied true (new_call place caller call o) p)) (step.Handle 64 0))
-good-applied xs n k place caller p call (op.Get key) right = absurd (no true refl right.open_call.2)
-good-applied xs n k place caller p call (op.Put key value) right =
-    let a = new_call place caller call (op.Put key value) in
-    let r = reply_to (table xs) (op.Put key value) in
-    record { settled = xs ++ answered xs n p a r ∷ []; steps = n + 1; letters = k + 1; flight = idle; is = applied-put xs n k p place caller call key value; right = settle xs n p _ a r right right.open_call.0 right.open_call.1 refl tt }
-good-applied xs n k place caller p call (op.Remove key) right =
-    let a = new_call place caller call (op.Remove key) in
-    let r = reply_to (table xs) (op.Remove key) in
-    record { settled = xs ++ answered xs n p a r ∷ []; steps = n + 1; letters = k + 1; flight = idle; is = applied-remove xs n k p place caller call key; right = settle xs n p _ a r right right.open_call.0 right.open_call.1 refl tt }
-good-applied xs n k place caller p call (op.Swap key expected value) right =
-    let a = new_call place caller call (op.Swap key expected value) in
-    let r = reply_to (table xs) (op.Swap key expected value) in
-    record { settled = xs ++ answered xs n p a r ∷ []; steps = n + 1; letters = k + 1; flight = idle; is = applied-swap xs n k p place caller call key expected value; right = settle xs n p _ a r right right.open_call.0 right.open_call.1 refl tt }
+pub not-applied : (xs : List Settled) (n : ℕ) → AllByRecursion IsSettled xs → AllByRecursion (IsNumbered n) xs → is_applied (mades xs) (the_txn n) ≡ false
+not-applied xs n each numbers = any-none (λ m. same_txn m.txn (the_txn n) && not (is_get m.entry.op)) (mades xs) (all-mades (λ m. (same_txn m.txn (the_txn n) && not (is_get m.entry.op)) ≡ false) xs (all-weaker (λ x. IsSettled x × IsNumbered n x) (λ x. AllByRecursion (λ m. (same_txn m.txn (the_txn n) && not (is_get m.entry.op)) ≡ false) x.made) (λ x h. all-weaker (IsPointOf x.asked x.told.txn) (λ m. (same_txn m.txn (the_txn n) && not (is_get m.entry.op)) ≡ false) (λ m k. other-txn n x.told.txn m (not (is_get m.entry.op)) k.of_txn h.1.1) x.made h.0.points) xs (all-both IsSettled (IsNumbered n) xs each numbers)))

@@ -1,8 +1,14 @@
 pub mod Lists
+pub mod Scene
+pub mod Leaf
+pub mod Rows
+pub mod Journals
 pub mod Flight
 pub mod Steps
+pub mod Cases
 pub mod Good
+pub mod Moves
+pub mod Answering
 pub mod Runs
 pub mod Standing
-pub mod Moves
-pub mod Moving
+pub mod Dues

@@ -1,4 +1,5 @@
-use Rattle.std.proofs.Common.{◌≡◌, Bool, true, false, ◌||◌, List, [], ◌∷◌, ◌++◌, map, refl}
+use Rattle.std.proofs.Common.{◌≡◌, Bool, true, false, ◌||◌, List, [], ◌∷◌, ◌++◌, map, refl, ap}
+use Rattle.std.specs.Prelude.{filter}
 use Rattle.std.specs.List.{AllByRecursion, list_any}
 
 -- facts of every item of a list
@@ -36,3 +37,17 @@ any-last p (x ∷ xs) y h = elim (p x) as (λ b. (b || list_any p (xs ++ y ∷ [
 pub any-none : {X : Type 0} (p : X → Bool) (xs : List X) → AllByRecursion (λ x. p x ≡ false) xs → list_any p xs ≡ false
 any-none p [] h = refl
 any-none p (x ∷ xs) h = rw h.0 (any-none p xs h.1)
+
+pub all-append : {X : Type 0} (P : X → Type 0) (xs ys : List X) → AllByRecursion P xs → AllByRecursion P ys → AllByRecursion P (xs ++ ys)
+all-append P [] ys h k = k
+all-append P (x ∷ xs) ys h k = (h.0, all-append P xs ys h.1 k)
+
+-- filters
+
+pub filter-all : {X : Type 0} (p : X → Bool) (xs : List X) → AllByRecursion (λ x. p x ≡ true) xs → filter p xs ≡ xs
+filter-all p [] h = refl
+filter-all p (x ∷ xs) h = rw h.0 (ap (λ t. x ∷ t) (filter-all p xs h.1))
+
+pub filter-none : {X : Type 0} (p : X → Bool) (xs : List X) → AllByRecursion (λ x. p x ≡ false) xs → filter p xs ≡ []
+filter-none p [] h = refl
+filter-none p (x ∷ xs) h = rw h.0 (filter-none p xs h.1)

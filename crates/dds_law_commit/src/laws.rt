@@ -1,9 +1,14 @@
-//! The law, as the contract of a function that does nothing.
+//! The laws, as the contracts of functions that do nothing.
 
-ghost use Rattle.std.specs.Prelude.{List};
-ghost use Rattle.dds_law_commit.specs.Law.{RunsStand};
+ghost use Rattle.dds_law_commit.specs.Law.{AnswersAreCaused, RunsStand};
 
-/// Every run of the opening with one brick, one library and one caller stands in one legal history.
+/// The calls of every run of the opening with one brick, one library and one caller stand in one legal history.
 pub fn runs_stand()
     ensures { RunsStand }
+{}
+
+/// In each such run a call is answered Again, Full or Lost only for a cause: none is answered Again or Lost, and Full only
+/// where the brick took a prepare of the call while the leaf was full.
+pub fn answers_are_caused()
+    ensures { AnswersAreCaused }
 {}

@@ -1,5 +1,5 @@
 -- Laws of `trimmed`, and which transactions lie between two in their order.
-use Rattle.std.proofs.Common.{◌≡◌, ℕ, ◌-◌, ◌<◌, Bool, true, false, not, cond, ltb, Some, None, IsTrue, refl, ap, sym, ◌∙◌, is_some, List, ◌∷◌, IfSome, slice_get, subst, arith}
+use Rattle.std.proofs.Common.{◌≡◌, ℕ, ◌-◌, ◌<◌, ◌≤◌, Bool, true, false, not, cond, ltb, Option, Some, None, IsTrue, refl, ap, sym, ◌∙◌, is_some, List, ◌∷◌, IfSome, slice_get, subst, arith}
 use Rattle.std.proofs.lemmas.Bool.Decides.{nat_tests}
 use Rattle.std.proofs.lemmas.Bool.{false≢true}
 use Rattle.std.specs.Ordering.{nat_cmp, ordering_then, eq_by_cmp, is_gt}
@@ -7,8 +7,8 @@ use Rattle.std.specs.declared.cmp.Ordering.TheVariants.{Less, Equal, Greater}
 use Rattle.std.specs.Cmp.{nat_cmp_is, Equal-is}
 use Rattle.std.specs.FinMap.{get, remove, contains_key, len, empty, from_entries, get-remove, get-retain_keys, get-empty, len-remove, empty_of_len, same_map}
 use Rattle.dds_base.specs.Number.{Txn}
-use Rattle.dds_locks.specs.Outcomes.{txn_cmp, OutcomeMap, is_below, trimmed}
-use Rattle.std.specs.BTreeMap.{BTreeMap}
+use Rattle.dds_locks.specs.Outcomes.{txn_cmp, OutcomeMap, is_below, trimmed, IsOfLibraries}
+use Rattle.std.specs.BTreeMap.{BTreeMap, is_at}
 use Rattle.std.specs.BTreeMap as tree
 use Rattle.std.specs.BTreeMap.Range.{IsInRange}
 use Rattle.std.specs.declared.ops.Bound.TheVariants.{Included, Excluded}
@@ -87,3 +87,28 @@ none-seen m lo hi library below ll ln hl hn h t b =
     let from : is_gt (ordering_then (nat_cmp lo.library t.library) (nat_cmp lo.number t.number)) ≡ false = rw (ll, ln) (from-below library below t b) in
     let before : ordering_then (nat_cmp t.library hi.library) (nat_cmp t.number hi.number) ≡ Less = rw (hl, hn) (before-below library below t b) in
     get-seen txn_total m t ∙ h t (from, before)
+
+-- a brick has no transaction to drop
+pub none-of-brick : (m : BTreeMap Txn Bool) (library below : ℕ) → IsOfLibraries m → library < 64 → (t : Txn) → IsTrue (is_below library below t) → get (from_entries {R = txn_cmp} m.entries) t ≡ None
+none-of-brick m library below h brick t b =
+    let same : t.library ≡ library = grind (arith, nat_tests, b) in
+    get-seen txn_total m t ∙ h t (rw same brick)
+
+unbound : (b : Bool) (v : Option Bool) → v ≡ None → cond b None v ≡ None
+unbound true v h = refl
+unbound false v h = h
+
+pub libraries-forget : (m n : BTreeMap Txn Bool) (k : Txn) → IsOfLibraries m → ((q : Txn) → tree.get txn_cmp n q ≡ cond (is_at (txn_cmp k) q) None (tree.get txn_cmp m q)) → IsOfLibraries n
+libraries-forget m n k h updated t brick = updated t ∙ unbound (is_at (txn_cmp k) t) (tree.get txn_cmp m t) (h t brick)
+
+bound : (b : Bool) (v : Bool) (rest : Option Bool) → b ≡ false → rest ≡ None → cond b (Some v) rest ≡ None
+bound true v rest h r = cc
+bound false v rest h r = r
+
+apart : (k t : Txn) → 64 ≤ k.library → t.library < 64 → is_at (txn_cmp k) t ≡ false
+apart k t lib brick =
+    let e : nat_cmp k.library t.library ≡ Greater = greater-is k.library t.library (omega (arith, lib, brick)) in
+    rw e refl
+
+pub libraries-note : (m n : BTreeMap Txn Bool) (k : Txn) (v : Bool) → IsOfLibraries m → 64 ≤ k.library → ((q : Txn) → tree.get txn_cmp n q ≡ cond (is_at (txn_cmp k) q) (Some v) (tree.get txn_cmp m q)) → IsOfLibraries n
+libraries-note m n k v h lib updated t brick = updated t ∙ bound (is_at (txn_cmp k) t) v (tree.get txn_cmp m t) (apart k t lib brick) (h t brick)

@@ -164,9 +164,8 @@ impl Locks {
         self.outcomes.note(txn, committed)
     }
 
-    /// Drops that library's outcomes with numbers below the bound. Takes no memory.
+    /// Drops that library's outcomes with numbers below the bound; a brick has none. Takes no memory.
     pub fn trim(&mut self, library: NodeNo, below: u64)
-        requires { 64 ≤ library }
         ensures { self.new ≡ record self.old { outcomes = trimmed self.old.outcomes library below } }
     {
         self.outcomes.trim(library, below);

@@ -1,6 +1,6 @@
 //! The outcomes of transactions, by transaction.
 
-ghost use Rattle.std.specs.Prelude.{◌≡◌, ◌≤◌, true, OnOk, OnErr, IfSome, IfNone, IsTrue};
+ghost use Rattle.std.specs.Prelude.{◌≡◌, true, OnOk, OnErr, IfSome, IfNone, IsTrue};
 ghost use Rattle.std.specs.FinMap as map;
 ghost use Rattle.dds_base.specs.Number.{Txn};
 ghost use Rattle.dds_locks.specs.Outcomes.{is_below, trimmed};
@@ -21,13 +21,15 @@ impl Model for Outcomes {
     ghost use Rattle.std.specs.FinMap as map;
     ghost use Rattle.std.specs.Coded.{coded_bool};
     ghost use Rattle.dds_base.specs.contracts.number.TxnNo as txn;
-    ghost use Rattle.dds_locks.specs.Outcomes.{OutcomeMap};
+    ghost use Rattle.dds_locks.specs.Outcomes.{OutcomeMap, IsOfLibraries};
 
     ghost Value = { OutcomeMap };
 
     ghost coded = { map.code txn.the_row.coded coded_bool };
 
     ghost view = { λ a. map.from_entries a.noted.entries };
+
+    ghost invariant = { λ a. IsOfLibraries a.noted };
 }
 
 impl Outcomes {
@@ -44,6 +46,7 @@ impl Outcomes {
         ensures ok { OnOk result (self.new ≡ map.insert self.old txn committed) }
         ensures err { OnErr result (self.new ≡ self.old) }
     {
+        let _library = txn.library();
         self.noted.insert(txn, committed)?;
         Ok(())
     }
@@ -55,9 +58,8 @@ impl Outcomes {
         self.noted.get(&txn).copied()
     }
 
-    /// Drops that library's outcomes with numbers below the bound. Takes no memory.
+    /// Drops that library's outcomes with numbers below the bound; a brick has none. Takes no memory.
     pub fn trim(&mut self, library: NodeNo, below: u64)
-        requires { 64 ≤ library }
         ensures { self.new ≡ trimmed self.old library below }
     {
         'trimming: while let Some(txn) = self.first_below(library, below) {
@@ -67,14 +69,15 @@ impl Outcomes {
 
     /// The first of that library's transactions that an outcome was noted of and whose number is below the bound.
     fn first_below(&self, library: NodeNo, below: u64) -> Option<TxnNo>
-        requires { 64 ≤ library }
         ensures below { IfSome result (λ t. is_below library below t ≡ true) }
         ensures noted { IfSome result (λ t. map.contains_key self.now t ≡ true) }
         ensures none { IfNone result ((t : Txn) → IsTrue (is_below library below t) → map.get self.now t ≡ None) }
     {
-        let mut found = self
-            .noted
-            .range(TxnNo::new(library, 0)..TxnNo::new(library, below));
+        let noted = &self.noted;
+        if library.is_brick() {
+            return None;
+        }
+        let mut found = noted.range(TxnNo::new(library, 0)..TxnNo::new(library, below));
         match found.next() {
             Some((txn, _)) => Some(*txn),
             None => None,

@@ -151,6 +151,7 @@ fn outcomes_stay_until_they_are_trimmed(rt: HostRuntime) -> Result<(), Fail> {
     ] {
         locks.note(txn(&rt, library, number), committed)?;
     }
+    locks.trim(brick(&rt, 0), 9);
     locks.trim(NodeNo::library(0).expect(&rt, "a library"), 5);
     let cases = [
         (0, 4, TxnStatus::NotPrepared),

@@ -3,11 +3,12 @@
 ghost use Rattle.std.specs.Prelude.{◌≡◌, ◌==◌, ◌<◌, ◌↔◌, IsTrue, None, IsSome, IfOk, OnOk, OnErr, option_copied, if◌then◌else◌};
 ghost use Rattle.std.specs.FinMap as map;
 ghost use Rattle.dds_groups.specs.Names.{low_half, high_half};
-ghost use Rattle.dds_trie.specs.Trie.{leaf_within, put, OverlapsSome};
+ghost use Rattle.dds_trie.specs.Trie.{leaf_within, put, leaves_of, OverlapsSome};
 ghost use Rattle.dds_base.specs.NodeSet.{has_node};
 ghost use Rattle.dds_maps.specs.Own.{own_leaf, whole, may_take_for};
 ghost use Rattle.dds_maps.specs.Judge.{put_all, standing_of, judged};
 
+use dds_base::items::Items;
 use dds_base::leaf::Leaf;
 use dds_base::memory::Memory;
 use dds_base::name::LeafName;
@@ -79,6 +80,13 @@ impl Maps {
         ensures { option_copied result ≡ map.get self.now name }
     {
         self.leaves.named(name)
+    }
+
+    /// A copy of all leaves, by bits and then by depth.
+    pub fn leaves(&self, alloc: Global) -> Result<Items<Leaf>, Memory>
+        ensures { IfOk result (λ list. list ≡ leaves_of self.now) }
+    {
+        self.leaves.leaves(alloc)
     }
 
     /// Whether some leaf's name overlaps the name. Looks at each leaf.

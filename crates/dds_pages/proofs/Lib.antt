@@ -3,3 +3,4 @@ pub mod RootPages
 pub mod PairPages
 pub mod Exact
 pub mod ExactPages
+pub mod ReadBack

@@ -1,6 +1,6 @@
 //! The pages of version 1, which an older store wrote: they are read, and written no more.
 
-ghost use Rattle.std.specs.Prelude.{◌≡◌, slice_index};
+ghost use Rattle.std.specs.Prelude.{◌≡◌, ◌≤◌, slice_index};
 ghost use Rattle.dds_pages.specs.Fields.{form_1};
 ghost use Rattle.dds_pages.specs.Root.{Root, IsRootRead};
 ghost use Rattle.dds_pages.specs.Bucket.{Bucket, IsBucketRead, AreHere};
@@ -39,7 +39,8 @@ impl OldRootPage {
 
     /// How many pairs the table has.
     pub fn pairs(&self) -> u32
-        ensures { result ≡ self.now.pairs }
+        ensures value { result ≡ self.now.pairs }
+        ensures range { result ≤ 16384 }
     {
         self.root.pairs()
     }

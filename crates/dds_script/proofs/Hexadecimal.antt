@@ -1,8 +1,9 @@
 -- Two hexadecimal digits for each byte.
-use Rattle.std.proofs.Common.{◌≡◌, ◌≢◌, ℕ, ◌+◌, ◌*◌, ◌/◌, ◌%◌, ◌<◌, ◌≤◌, List, [], ◌∷◌, ◌++◌, length, get_or, take, codes, refl, ap, sym, ◌∙◌, arith, suc, zero, append_assoc}
+use Rattle.std.proofs.Common.{◌≡◌, ◌≢◌, ℕ, ◌+◌, ◌*◌, ◌/◌, ◌%◌, ◌<◌, ◌≤◌, List, [], ◌∷◌, ◌++◌, length, get_or, take, codes, refl, ap, sym, ◌∙◌, arith, suc, zero, append_assoc, Bool, true, Option, Some, None, nat_le, subst, if◌then◌else◌}
+use Rattle.std.proofs.lemmas.Bool.Decides.{nat_tests}
 use Rattle.std.proofs.lemmas.Grind.{common_steps}
 use Rattle.std.specs.Char.{digit_char}
-use Rattle.dds_script.specs.Reading.{IsByte, IsHexText, IsValueWord}
+use Rattle.dds_script.specs.Reading.{IsByte, IsHexText, IsRead, IsValueWord}
 use Rattle.dds_script.specs.Words.{hex_text, AreBytes}
 
 pub hex-length : (bytes : List ℕ) → length (hex_text bytes) ≡ 2 * length bytes
@@ -61,3 +62,12 @@ value-hex word [] dash is = absurd (dash is.0)
 value-hex word (byte ∷ bytes) dash is = ((is.0, is.1.1), omega (arith, hex-length (byte ∷ bytes), ap length is.0), omega (arith, hex-length (byte ∷ bytes), ap length is.0))
 
 -- a hexadecimal digit isn't the mark
+
+-- the bytes of a value's word are the value
+pub hex-value : (word bytes : List ℕ) (made : Option (List ℕ)) → IsHexText word bytes → 0 < length word → length word ≤ 120000 → made ≡ (if nat_le (length bytes) 60000 then Some bytes else None) → IsRead (IsValueWord word) made
+hex-value word [] made is some few e = absurd (omega (arith, some, ap length is.0))
+hex-value word (byte ∷ bytes) made is some few e =
+    let n : length (byte ∷ bytes) ≤ 60000 = omega (arith, few, hex-length (byte ∷ bytes), ap length is.0) in
+    let t : nat_le (length (byte ∷ bytes)) 60000 ≡ true = grind (arith, nat_tests, n) in
+    let m : made ≡ Some (byte ∷ bytes) = e ∙ ap (λ (b : Bool). if b then Some (byte ∷ bytes) else None) t in
+    subst (λ (r : Option (List ℕ)). IsRead (IsValueWord word) r) (sym m) (is.0, (n, is.1))

@@ -1,72 +1,82 @@
--- The forms of a script's lines, and where they may stand.
-use Rattle.std.specs.Prelude.{◌≡◌, ◌≢◌, ℕ, ◌+◌, ◌^◌, ◌<◌, ◌++◌, ◌⊎◌, Option, None, Some, List, [], ◌∷◌, length, codes}
+-- Which bytes are a script, and which fault of the others is the first.
+use Rattle.std.specs.Prelude.{◌≡◌, ℕ, ◌+◌, ◌<◌, ◌++◌, ◌⊎◌, ◌||◌, Bool, true, false, Option, None, Some, List, [], ◌∷◌, length, codes, if◌then◌else◌}
 use Rattle.std.specs.Fmt.{decimal}
-use Rattle.dds_base.specs.declared.leaf.Leaf.{Leaf}
-use Rattle.dds_base.specs.declared.op.Op.{Op}
-use Rattle.dds_base.specs.declared.op.Op.TheVariants.{Get, Put, Remove, Swap}
+use Rattle.dds_base.specs.BrickList.{has}
+use Rattle.dds_base.specs.Name.{Name}
+use Rattle.dds_base.specs.declared.leaf.Leaf.{Leaf as LeafOf}
+use Rattle.dds_script.specs.Fields.{IsLineOf, IsListWord, IsNameWord, NumbersAre, ValuesAre}
+use Rattle.dds_script.specs.Forms.{form_of, is_body, is_first}
+use Rattle.dds_script.specs.Lines.{text_form, HasWords, IsBlank}
+use Rattle.dds_script.specs.Opening.{ScriptOf, CoverAll, meets, opening_leaf, stale_at, stale_leaf}
+use Rattle.dds_script.specs.Ranges.{IsRanges, IsName, IsGroup}
+use Rattle.dds_script.specs.Text.{list_text, name_text}
+use Rattle.dds_script.specs.Words.{HasNo, word, words}
+use Rattle.dds_script.specs.declared.form.Form.{Form}
+use Rattle.dds_script.specs.declared.form.Form.TheVariants.{Blank, Cluster, Leaf, Old}
+use Rattle.dds_script.specs.declared.form.Runs.{Runs}
+use Rattle.dds_script.specs.declared.form.Runs.TheVariants.{All, FirstPath}
 use Rattle.dds_script.specs.declared.line.Line.{Line}
-use Rattle.dds_script.specs.declared.line.Line.TheVariants.{Call, Stop, Join, Split, Pick, Events, Quiet, Post, Take, Show, Nothing}
-use Rattle.dds_script.specs.declared.opening.Opening.{Opening}
-use Rattle.dds_script.specs.declared.opening.Script.{Script}
+use Rattle.dds_script.specs.declared.line.Line.TheVariants as lines
 use Rattle.dds_script.specs.declared.place.Place.{Place}
-use Rattle.dds_script.specs.declared.place.Place.TheVariants.{BeforeCluster, BeforeLeaf, Body}
+use Rattle.dds_script.specs.declared.place.Place.TheVariants as places
+use Rattle.dds_script.specs.declared.ranges.Ranges.{Ranges}
+use Rattle.dds_script.specs.declared.reader.Reader.{Reader}
 use Rattle.dds_script.specs.declared.script_error.ScriptError.{ScriptError}
 use Rattle.dds_script.specs.declared.script_error.ScriptError.TheVariants.{Fault, Memory}
 use Rattle.dds_script.specs.declared.script_error.ScriptFault.{ScriptFault}
-use Rattle.dds_script.specs.declared.script_error.ScriptKind.TheVariants.{Later}
-use Rattle.dds_script.specs.Words.{HasNo, IsBlank, value_text, IsValue}
+use Rattle.dds_script.specs.declared.script_error.ScriptKind.{ScriptKind}
+use Rattle.dds_script.specs.declared.script_error.ScriptKind.TheVariants as kinds
 
--- how an operation is spelled
-abbrev pub op_text : Op → List ℕ
-op_text (Get key) = codes "get " ++ decimal key
-op_text (Put key value) = codes "put " ++ (decimal key ++ 32 ∷ value_text value)
-op_text (Remove key) = codes "remove " ++ decimal key
-op_text (Swap key expected value) = codes "swap " ++ (decimal key ++ 32 ∷ (value_text expected ++ 32 ∷ value_text value))
+-- nothing was read
+abbrev pub first_reader : Reader
+first_reader = record { place = places.BeforeCluster; ranges = record { bricks = 1; libraries = 1; callers = 1 }; leaves = []; stale = []; lines = [] }
 
--- an operation whose numbers and values are in range
-abbrev pub IsInRange : Op → Type 0
-IsInRange (Get key) = key < 2 ^ 64
-IsInRange (Put key value) = (key < 2 ^ 64) × IsValue value
-IsInRange (Remove key) = key < 2 ^ 64
-IsInRange (Swap key expected value) = (key < 2 ^ 64) × IsValue expected × IsValue value
+-- a blank line is a line of the script only behind another line of it
+abbrev pub after_blank : Place → Reader → Reader
+after_blank places.BeforeCluster s = s
+after_blank places.Leaves s = s
+after_blank places.Old s = s
+after_blank places.Body s = record s { lines = s.lines ++ lines.Nothing ∷ [] }
 
--- the text is the operation
-abbrev pub IsOp : List ℕ → Op → Type 0
-IsOp text op = (text ≡ op_text op) × IsInRange op
+-- the opening may end here: the leaves cover each key
+abbrev pub IsOpened : Place → Reader → Type 0
+IsOpened places.BeforeCluster s = ⊥
+IsOpened places.Leaves s = CoverAll s.leaves
+IsOpened places.Old s = Unit {0}
+IsOpened places.Body s = Unit {0}
 
--- the text, which has no LF, is the line
-abbrev pub IsLine : List ℕ → Line → Type 0
-IsLine text (Call caller op) = (caller ≡ 0) × (text ≡ codes "0 " ++ op_text op) × IsInRange op
-IsLine text (Stop node) = ⊥
-IsLine text (Join brick name via) = ⊥
-IsLine text (Split brick name) = ⊥
-IsLine text (Pick picker) = ⊥
-IsLine text (Events count) = ⊥
-IsLine text Quiet = text ≡ codes "quiet"
-IsLine text (Post node) = ⊥
-IsLine text (Take node from) = ⊥
-IsLine text (Show brick) = ⊥
-IsLine text Nothing = IsBlank text
+-- a place at which a stale leaf may stand
+abbrev pub takes_old : Place → Bool
+takes_old places.BeforeCluster = false
+takes_old places.Leaves = true
+takes_old places.Old = true
+takes_old places.Body = false
 
--- the one leaf of the first opening
-abbrev pub first_leaf : Leaf
-first_leaf = record { name = record { bits = 0; depth = 0 }; epoch = 1; stamp = record { maker = 255; count = 0 }; prev = record { maker = 255; count = 0 }; list = 0 ∷ [] }
+-- reading words leads from one state to the next: one case for each kind of line
+pub data MovesBy : Reader → List (List ℕ) → Reader → Type 0 where
+  cluster : (s : Reader) (ws : List (List ℕ)) (r : Ranges) → s.place ≡ places.BeforeCluster → ws ≡ codes "cluster" ∷ decimal r.bricks ∷ decimal r.libraries ∷ decimal r.callers ∷ [] → IsRanges r → MovesBy s ws (record s { place = places.Leaves; ranges = r })
+  leaf : (s : Reader) (ws : List (List ℕ)) (name : Name) (list : List ℕ) → s.place ≡ places.Leaves → ws ≡ codes "leaf" ∷ name_text name ∷ list_text list ∷ [] → IsName name → IsGroup s.ranges.bricks list → meets s.leaves name ≡ false → MovesBy s ws (record s { leaves = s.leaves ++ opening_leaf (length s.leaves) name list ∷ [] })
+  old : (s : Reader) (ws : List (List ℕ)) (library : ℕ) (name : Name) (list : List ℕ) → takes_old s.place ≡ true → IsOpened s.place s → ws ≡ codes "old" ∷ decimal library ∷ name_text name ∷ list_text list ∷ [] → library < s.ranges.libraries → IsName name → IsGroup s.ranges.bricks list → MovesBy s ws (record s { place = places.Old; stale = s.stale ++ stale_leaf library (stale_at library s.stale) name list ∷ [] })
+  line : (s : Reader) (ws : List (List ℕ)) (l : Line) → IsOpened s.place s → IsLineOf s.ranges ws l → MovesBy s ws (record s { place = places.Body; lines = s.lines ++ l ∷ [] })
 
--- the opening of `cluster 1 1 1` and `leaf 0/0 0`
-abbrev pub first_opening : Opening
-first_opening = record { bricks = 1; libraries = 1; callers = 1; leaves = first_leaf ∷ []; old = [] }
+-- the reader lets the form through
+abbrev pub is_run : Runs → Option Form → List (List ℕ) → Bool
+is_run All form ws = true
+is_run FirstPath None ws = false
+is_run FirstPath (Some f) ws = is_first f ws
 
--- at the place the text is accepted, is these lines of the script (none or one), and leads to the next place
-abbrev pub Takes : Place → List ℕ → List Line → Place → Type 0
-Takes BeforeCluster text lines next = (lines ≡ []) × ((IsBlank text × (next ≡ BeforeCluster)) ⊎ ((text ≡ codes "cluster 1 1 1") × (next ≡ BeforeLeaf)))
-Takes BeforeLeaf text lines next = (lines ≡ []) × ((IsBlank text × (next ≡ BeforeLeaf)) ⊎ ((text ≡ codes "leaf 0/0 0") × (next ≡ Body)))
-Takes Body text lines next = (line : Line) × IsLine text line × (lines ≡ line ∷ []) × (next ≡ Body)
+-- the words are accepted, and lead to the next state
+abbrev pub AreAccepted : Runs → Reader → List (List ℕ) → Reader → Type 0
+AreAccepted runs s ws next = MovesBy s ws next × (is_run runs (form_of ws) ws ≡ true)
 
--- from the first place the texts are accepted one after another, are these lines of the script, and lead to the last
--- place
-abbrev pub Reads : Place → List (List ℕ) → List Line → Place → Type 0
-Reads place [] lines last = (lines ≡ []) × (last ≡ place)
-Reads place (text ∷ texts) lines last = (first : List Line) × (next : Place) × (rest : List Line) × Takes place text first next × Reads next texts rest last × (lines ≡ first ++ rest)
+-- the text is accepted, and leads to the next state
+abbrev pub Takes : Runs → Reader → List ℕ → Reader → Type 0
+Takes runs s text next = (IsBlank text × (next ≡ after_blank s.place s)) ⊎ (HasWords text × AreAccepted runs s (words text) next)
+
+-- the texts are accepted one after another
+abbrev pub Reads : Runs → Reader → List (List ℕ) → Reader → Type 0
+Reads runs s [] last = last ≡ s
+Reads runs s (text ∷ texts) last = (next : Reader) × Takes runs s text next × Reads runs next texts last
 
 -- each text with an LF at its end
 abbrev pub lines_text : List (List ℕ) → List ℕ
@@ -78,47 +88,146 @@ abbrev pub AreTexts : List (List ℕ) → Type 0
 AreTexts [] = Unit {0}
 AreTexts (text ∷ texts) = HasNo 10 text × AreTexts texts
 
--- the bytes begin with lines that are accepted one after another, are these lines of the script, and lead to the place;
--- the rest of the bytes follows
-pub record IsReadTo (bytes : List ℕ) (rest : List ℕ) (lines : List Line) (place : Place) : Type 0 where
+-- the bytes begin with lines that are accepted one after another and lead to the state; the rest of the bytes follows
+pub record IsReadTo (runs : Runs) (bytes : List ℕ) (rest : List ℕ) (state : Reader) : Type 0 where
   pub texts : List (List ℕ)
   pub whole : bytes ≡ lines_text texts ++ rest
   pub cut : AreTexts texts
-  pub reads : Reads BeforeCluster texts lines place
+  pub reads : Reads runs first_reader texts state
+
+abbrev pub script_of : Reader → ScriptOf
+script_of s =
+    record { opening = record { bricks = s.ranges.bricks; libraries = s.ranges.libraries; callers = s.ranges.callers; leaves = s.leaves; old = s.stale }; lines = s.lines }
+
+-- the bytes are the script, and each line is one that is run
+pub record AcceptsBy (runs : Runs) (bytes : List ℕ) (script : ScriptOf) : Type 0 where
+  pub state : Reader
+  pub all : IsReadTo runs bytes [] state
+  pub opened : IsOpened state.place state
+  pub same : script ≡ script_of state
 
 -- the bytes are the script
-pub record Accepts (bytes : List ℕ) (script : Script) : Type 0 where
-  pub all : IsReadTo bytes [] script.lines Body
-  pub opening : script.opening ≡ first_opening
+abbrev pub Accepts : List ℕ → ScriptOf → Type 0
+Accepts bytes script = AcceptsBy All bytes script
 
--- at the place no line of the rest is accepted: there is no rest and the place is not the body, or the rest has bytes
+-- a line of a form of the opening may stand at a place
+abbrev pub opening_stands : Place → Form → Bool
+opening_stands places.BeforeCluster Cluster = true
+opening_stands places.Leaves Leaf = true
+opening_stands places.Leaves Old = true
+opening_stands places.Old Old = true
+opening_stands place Blank = true
+opening_stands place f = false
+
+abbrev pub is_behind_cluster : Place → Bool
+is_behind_cluster places.BeforeCluster = false
+is_behind_cluster places.Leaves = true
+is_behind_cluster places.Old = true
+is_behind_cluster places.Body = true
+
+-- a line of the form may stand at a place
+abbrev pub may_stand : Place → Form → Bool
+may_stand place f = if is_body f then is_behind_cluster place else opening_stands place f
+
+-- a brick stands twice in the list
+abbrev pub repeats : List ℕ → Bool
+repeats [] = false
+repeats (x ∷ xs) = has xs x || repeats xs
+
+-- some key is uncovered where the leaves end
+abbrev pub IsUncovered : Place → Reader → Type 0
+IsUncovered places.BeforeCluster s = ⊥
+IsUncovered places.Leaves s = CoverAll s.leaves → ⊥
+IsUncovered places.Old s = ⊥
+IsUncovered places.Body s = ⊥
+
+-- the word is a list in which a brick stands twice
+pub record IsRepeating (bricks : ℕ) (word : List ℕ) : Type 0 where
+  pub list : List ℕ
+  pub spelled : IsListWord bricks word list
+  pub twice : repeats list ≡ true
+
+-- the word is a name that has a key in common with a leaf
+pub record IsMet (leaves : List LeafOf) (word : List ℕ) : Type 0 where
+  pub name : Name
+  pub spelled : IsNameWord word name
+  pub met : meets leaves name ≡ true
+
+-- a line of the opening repeats a brick in a list, or its leaf overlaps an earlier one, or it ends leaves that leave a key
+-- uncovered
+abbrev pub IsOpeningFault : Reader → Form → List (List ℕ) → Type 0
+IsOpeningFault s Leaf ws = IsRepeating s.ranges.bricks (word ws 2) ⊎ IsMet s.leaves (word ws 1)
+IsOpeningFault s Old ws = IsUncovered s.place s ⊎ IsRepeating s.ranges.bricks (word ws 3)
+IsOpeningFault s f ws = ⊥
+
+abbrev pub IsCoverFaultBy : Bool → Reader → Form → List (List ℕ) → Type 0
+IsCoverFaultBy true s f ws = IsUncovered s.place s
+IsCoverFaultBy false s f ws = IsOpeningFault s f ws
+
+-- the line repeats a brick in a list, or its leaf overlaps an earlier one, or a key is uncovered behind the leaves
+abbrev pub IsCoverFault : Reader → Form → List (List ℕ) → Type 0
+IsCoverFault s f ws = IsCoverFaultBy (is_body f) s f ws
+
+-- a line of this form and these words has a fault of the kind, and none of a kind that is looked for before
+abbrev pub IsFaultAt : Runs → Reader → Form → List (List ℕ) → ScriptKind → Type 0
+IsFaultAt runs s f ws kinds.NoEnd = ⊥
+IsFaultAt runs s f ws kinds.Form = ⊥
+IsFaultAt runs s f ws kinds.Place = may_stand s.place f ≡ false
+IsFaultAt runs s f ws kinds.Number = (may_stand s.place f ≡ true) × (NumbersAre s.ranges f ws → ⊥)
+IsFaultAt runs s f ws kinds.Value = (may_stand s.place f ≡ true) × NumbersAre s.ranges f ws × (ValuesAre f ws → ⊥)
+IsFaultAt runs s f ws kinds.Cover = (may_stand s.place f ≡ true) × NumbersAre s.ranges f ws × ValuesAre f ws × IsCoverFault s f ws
+IsFaultAt runs s f ws kinds.Later = (may_stand s.place f ≡ true) × NumbersAre s.ranges f ws × ValuesAre f ws × (IsCoverFault s f ws → ⊥) × (is_run runs (Some f) ws ≡ false)
+
+abbrev pub IsFaultOf : Runs → Reader → Option Form → List (List ℕ) → ScriptKind → Type 0
+IsFaultOf runs s None ws kind = kind ≡ kinds.Form
+IsFaultOf runs s (Some f) ws kind = IsFaultAt runs s f ws kind
+
+-- what taking words does: they are accepted and lead to the next state, or this is their first kind of fault
+abbrev pub AreTaken : Runs → Reader → List (List ℕ) → Reader → Option ScriptKind → Type 0
+AreTaken runs s ws next None = AreAccepted runs s ws next
+AreTaken runs s ws next (Some kind) = IsFaultOf runs s (form_of ws) ws kind
+
+-- what taking a text does: it is accepted and leads to the next state, or this is its first kind of fault
+abbrev pub IsTaken : Runs → Reader → List ℕ → Reader → Option ScriptKind → Type 0
+IsTaken runs s text next None = Takes runs s text next
+IsTaken runs s text next (Some kind) = IsFaultOf runs s (text_form text) (words text) kind
+
+-- what is wrong where no line is left
+abbrev pub IsEndFault : Place → Reader → ScriptKind → Type 0
+IsEndFault places.BeforeCluster s kind = kind ≡ kinds.Place
+IsEndFault places.Leaves s kind = (kind ≡ kinds.Cover) × (CoverAll s.leaves → ⊥)
+IsEndFault places.Old s kind = ⊥
+IsEndFault places.Body s kind = ⊥
+
+-- whether the opening may end: this is what is wrong where it may not
+abbrev pub IsGate : Reader → Option ScriptKind → Type 0
+IsGate s None = IsOpened s.place s
+IsGate s (Some kind) = IsEndFault s.place s kind
+
+-- at the state no line of the rest is accepted: there is no rest and the script isn't whole, or the rest has bytes
 -- but no LF, or its first line is refused
-pub data IsRefused : Place → List ℕ → Type 0 where
-  ended : (place : Place) → place ≢ Body → IsRefused place []
-  no_end : (place : Place) (rest : List ℕ) → 0 < length rest → HasNo 10 rest → IsRefused place rest
-  refused : (place : Place) (text more : List ℕ) → HasNo 10 text → ((lines : List Line) (next : Place) → Takes place text lines next → ⊥) → IsRefused place (text ++ 10 ∷ more)
+pub data IsRefused : Runs → Reader → List ℕ → ScriptKind → Type 0 where
+  ended : (runs : Runs) (s : Reader) (kind : ScriptKind) → IsEndFault s.place s kind → IsRefused runs s [] kind
+  no_end : (runs : Runs) (s : Reader) (rest : List ℕ) → 0 < length rest → HasNo 10 rest → IsRefused runs s rest kinds.NoEnd
+  refused : (runs : Runs) (s : Reader) (text more : List ℕ) (kind : ScriptKind) → HasNo 10 text → IsFaultOf runs s (text_form text) (words text) kind → IsRefused runs s (text ++ 10 ∷ more) kind
 
 -- the fault is that of the first line that is not accepted
-pub record IsFirstFault (bytes : List ℕ) (fault : ScriptFault) : Type 0 where
-  pub lines : List Line
-  pub place : Place
+pub record IsFirstFaultBy (runs : Runs) (bytes : List ℕ) (fault : ScriptFault) : Type 0 where
+  pub state : Reader
   pub rest : List ℕ
-  pub before : IsReadTo bytes rest lines place
-  pub refuses : IsRefused place rest
+  pub before : IsReadTo runs bytes rest state
+  pub refuses : IsRefused runs state rest fault.kind
   pub line : fault.line ≡ length before.texts + 1
-  pub kind : fault.kind ≡ Later
+
+abbrev pub IsFirstFault : List ℕ → ScriptFault → Type 0
+IsFirstFault bytes fault = IsFirstFaultBy All bytes fault
 
 -- the error is the first fault of the bytes, or want of memory
-abbrev pub IsScriptError : List ℕ → ScriptError → Type 0
-IsScriptError bytes (Fault fault) = IsFirstFault bytes fault
-IsScriptError bytes Memory = Unit {0}
+abbrev pub IsScriptError : Runs → List ℕ → ScriptError → Type 0
+IsScriptError runs bytes (Fault fault) = IsFirstFaultBy runs bytes fault
+IsScriptError runs bytes Memory = Unit {0}
 
--- what taking a text at a place does to the lines of the script: it is accepted and leads to the next place, or it is not
-abbrev pub IsTaken : Place → List ℕ → List Line → List Line → Option Place → Type 0
-IsTaken place text before after None = (lines : List Line) (next : Place) → Takes place text lines next → ⊥
-IsTaken place text before after (Some next) = (lines : List Line) × Takes place text lines next × (after ≡ before ++ lines)
-
--- behind a text of the opening: a blank one changes nothing, the head leads to the next place, and else it is refused
-abbrev pub IsAfterHead : Place → List ℕ → List ℕ → Place → Option Place → Type 0
-IsAfterHead place text head next (Some after) = (IsBlank text × (after ≡ place)) ⊎ ((text ≡ head) × (after ≡ next))
-IsAfterHead place text head next None = (IsBlank text → ⊥) × (text ≡ head → ⊥)
+-- bytes with a fault are no script
+abbrev pub IsNoScript : Runs → List ℕ → ScriptError → Type 0
+IsNoScript runs bytes (Fault fault) = (script : ScriptOf) → AcceptsBy runs bytes script → ⊥
+IsNoScript runs bytes Memory = Unit {0}

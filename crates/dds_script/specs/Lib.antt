@@ -1,5 +1,13 @@
 pub mod Words
 pub mod Reading
+pub mod Ranges
+pub mod Opening
+pub mod Shares
+pub mod Cutting
+pub mod Forms
+pub mod Fields
+pub mod Lines
 pub mod Grammar
+pub mod Sound
 pub mod Text
 pub mod Writing

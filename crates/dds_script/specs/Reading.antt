@@ -1,8 +1,7 @@
 -- What a reader of a text answers.
-use Rattle.std.specs.Prelude.{◌≡◌, ℕ, ◌/◌, ◌%◌, ◌^◌, ◌<◌, ◌++◌, List, ◌∷◌, Option, None, Some}
+use Rattle.std.specs.Prelude.{◌≡◌, ℕ, ◌/◌, ◌%◌, ◌^◌, ◌<◌, List, Option, None, Some}
 use Rattle.std.specs.Char.{digit_char}
 use Rattle.std.specs.Fmt.{decimal}
-use Rattle.dds_script.specs.declared.read_op.TwoValues.{TwoValues}
 use Rattle.dds_script.specs.Words.{value_text, IsValue, hex_text, AreBytes}
 
 -- what the text spells, or there is nothing that it spells
@@ -29,7 +28,3 @@ IsByte high low byte = (high ≡ digit_char (byte / 16)) × (low ≡ digit_char 
 -- the text is two digits for each of the bytes
 abbrev pub IsHexText : List ℕ → List ℕ → Type 0
 IsHexText text bytes = (text ≡ hex_text bytes) × AreBytes bytes
-
--- the text is the two values of a swap
-abbrev pub IsTwoValues : List ℕ → TwoValues → Type 0
-IsTwoValues text values = (text ≡ value_text values.expected ++ 32 ∷ value_text values.value) × IsValue values.expected × IsValue values.value

@@ -1,6 +1,6 @@
 //! The text of a line of the transcript. Each function adds its text at the end of what is there.
 
-ghost use Rattle.std.specs.Prelude.{◌≡◌, ◌++◌, OnOk};
+ghost use Rattle.std.specs.Prelude.{◌≡◌, ◌++◌, IfOk, OnOk};
 ghost use Rattle.std.specs.Fmt.{decimal};
 ghost use Rattle.dds_script.specs.Text.{counted_text, leaf_text, line_text, met_text, order_reply_text, order_text, reply_text, up_text, words_text};
 
@@ -12,6 +12,38 @@ use dds_base::name::LeafName;
 use dds_base::number::NodeNo;
 use dds_base::op::{Met, OrderReply, Reply};
 use std::alloc::Global;
+use std::marker::Model;
+
+/// The bytes of a text.
+#[derive(Debug, Drop)]
+pub struct Text {
+    bytes: Vec<u8>,
+}
+
+impl Model for Text {
+    ghost use Rattle.std.specs.Prelude.{ℕ, List};
+
+    ghost Value = { List ℕ };
+
+    ghost view = { λ a. a.bytes.items };
+}
+
+impl Text {
+    pub fn bytes(&self) -> &[u8]
+        ensures { result.now ≡ self.now }
+    {
+        self.bytes.as_slice()
+    }
+}
+
+/// The bytes of one line, without its LF.
+pub fn line_text(alloc: Global, line: &ReportLine) -> Result<Text, Memory>
+    ensures { IfOk result (λ text. text ≡ words_text line.now) }
+{
+    let mut bytes = Vec::new(alloc);
+    put_words(alloc, &mut bytes, line)?;
+    Ok(Text { bytes })
+}
 
 /// Adds the line's text with its LF.
 pub fn put_line(alloc: Global, text: &mut Vec<u8>, line: &ReportLine) -> Result<(), Memory>

@@ -1,14 +1,17 @@
 //! Reading a whole script, in one pass over its bytes.
 
-ghost use Rattle.std.specs.Prelude.{◌≡◌, ◌<◌, ◌^◌, [], length, IfOk, IfErr};
-ghost use Rattle.dds_script.specs.Grammar.{Accepts, IsAfterHead, IsReadTo, IsScriptError, IsTaken};
+ghost use Rattle.std.specs.Prelude.{◌≡◌, ◌<◌, ◌≤◌, ◌^◌, [], length, IfOk, IfErr};
+ghost use Rattle.dds_script.specs.Grammar.{Accepts, AcceptsBy, IsNoScript, IsOpened, IsReadTo, IsScriptError, script_of};
+ghost use Rattle.dds_script.specs.Opening.{ScriptOf, first_opening};
+ghost use Rattle.dds_script.specs.Sound.{IsSound};
 
-use crate::line::LineList;
-use crate::opening::{Script, first_opening};
-use crate::place::Place;
-use crate::read_line::read_line;
+use crate::form::Runs;
+use crate::opening::{Opening, Script};
+use crate::reader::Reader;
 use crate::script_error::{ScriptError, ScriptFault, ScriptKind};
-use crate::words::{find, is_blank, same};
+use crate::take_line::take_text;
+use crate::take_opening::unopened;
+use crate::words::find;
 use dds_base::memory::Memory;
 use std::alloc::Global;
 
@@ -16,84 +19,76 @@ use std::alloc::Global;
 pub fn read_script(alloc: Global, bytes: &[u8]) -> Result<Script, ScriptError>
     requires { length bytes.now < 2 ^ 31 }
     ensures script { IfOk result (λ script. Accepts bytes.now script) }
-    ensures error { IfErr result (λ error. IsScriptError bytes.now error) }
+    ensures one { IfOk result (λ script. (other : ScriptOf) → Accepts bytes.now other → other ≡ script) }
+    ensures error { IfErr result (λ error. IsScriptError Runs.All bytes.now error) }
+    ensures none { IfErr result (λ error. IsNoScript Runs.All bytes.now error) }
 {
-    match read_lines(alloc, bytes) {
-        Ok(lines) => match first_opening(alloc) {
-            Ok(opening) => Ok(Script::of(opening, lines)),
-            Err(_) => Err(ScriptError::Memory),
-        },
+    read_by(alloc, Runs::All, bytes)
+}
+
+/// As `read_script`, but a line that the first path can't run yet is not accepted: its one opening is that of one brick,
+/// one library and one caller.
+pub fn read_first_script(alloc: Global, bytes: &[u8]) -> Result<Script, ScriptError>
+    requires { length bytes.now < 2 ^ 31 }
+    ensures script { IfOk result (λ script. AcceptsBy Runs.FirstPath bytes.now script) }
+    ensures opening { IfOk result (λ script. script.opening ≡ first_opening) }
+    ensures one { IfOk result (λ script. (other : ScriptOf) → AcceptsBy Runs.FirstPath bytes.now other → other ≡ script) }
+    ensures error { IfErr result (λ error. IsScriptError Runs.FirstPath bytes.now error) }
+    ensures none { IfErr result (λ error. IsNoScript Runs.FirstPath bytes.now error) }
+{
+    read_by(alloc, Runs::FirstPath, bytes)
+}
+
+fn read_by(alloc: Global, runs: Runs, bytes: &[u8]) -> Result<Script, ScriptError>
+    requires { length bytes.now < 2 ^ 31 }
+    ensures script { IfOk result (λ script. AcceptsBy runs bytes.now script) }
+    ensures error { IfErr result (λ error. IsScriptError runs bytes.now error) }
+{
+    match read_lines(alloc, runs, bytes) {
+        Ok(reader) => Ok(script_of(reader)),
         Err(error) => Err(error),
     }
 }
 
-fn read_lines(alloc: Global, bytes: &[u8]) -> Result<LineList, ScriptError>
-    requires { length bytes.now < 2 ^ 31 }
-    ensures lines { IfOk result (λ lines. IsReadTo bytes.now [] lines Place.Body) }
-    ensures error { IfErr result (λ error. IsScriptError bytes.now error) }
+fn script_of(reader: Reader) -> Script
+    requires sound { IsSound reader }
+    requires opened { IsOpened reader.place reader }
+    requires few { length reader.lines < 2 ^ 32 }
+    ensures { result ≡ script_of reader }
 {
-    let mut lines = LineList::new(alloc);
-    let mut place = Place::BeforeCluster;
+    let opening = Opening::of(reader.ranges, reader.leaves, reader.stale);
+    Script::of(opening, reader.lines)
+}
+
+fn read_lines(alloc: Global, runs: Runs, bytes: &[u8]) -> Result<Reader, ScriptError>
+    requires { length bytes.now < 2 ^ 31 }
+    ensures read { IfOk result (λ reader. IsReadTo runs bytes.now [] reader) }
+    ensures opened { IfOk result (λ reader. IsOpened reader.place reader) }
+    ensures error { IfErr result (λ error. IsScriptError runs bytes.now error) }
+{
+    let mut reader = Reader::new(alloc);
     let mut number = 1u32;
     let mut rest = bytes;
     'reading: while !rest.is_empty() {
         let Some(end) = find(rest, b'\n') else {
-            return Err(later(number));
+            return Err(fault(number, ScriptKind::NoEnd));
         };
-        match take_line(alloc, place, &rest[..end], &mut lines) {
-            Ok(Some(next)) => place = next,
-            Ok(None) => return Err(later(number)),
+        match take_text(alloc, runs, &mut reader, &rest[..end]) {
+            Ok(None) => {}
+            Ok(Some(kind)) => return Err(fault(number, kind)),
             Err(Memory) => return Err(ScriptError::Memory),
         }
         rest = &rest[end + 1..];
         number += 1;
     }
-    match place {
-        Place::Body => Ok(lines),
-        _ => Err(later(number)),
+    match unopened(&reader) {
+        None => Ok(reader),
+        Some(kind) => Err(fault(number, kind)),
     }
 }
 
-fn later(line: u32) -> ScriptError
-    ensures { result ≡ ScriptError.Fault record { line = line; kind = ScriptKind.Later } }
+fn fault(line: u32, kind: ScriptKind) -> ScriptError
+    ensures { result ≡ ScriptError.Fault record { line = line; kind = kind } }
 {
-    ScriptError::Fault(ScriptFault {
-        line,
-        kind: ScriptKind::Later,
-    })
-}
-
-/// Takes a text at its place, and answers the place of the next one.
-fn take_line(
-    alloc: Global,
-    place: Place,
-    text: &[u8],
-    lines: &mut LineList,
-) -> Result<Option<Place>, Memory>
-    ensures { IfOk result (λ next. IsTaken place text.now lines.old lines.new next) }
-{
-    match place {
-        Place::BeforeCluster => Ok(after_head(place, text, b"cluster 1 1 1", Place::BeforeLeaf)),
-        Place::BeforeLeaf => Ok(after_head(place, text, b"leaf 0/0 0", Place::Body)),
-        Place::Body => match read_line(alloc, text)? {
-            Some(line) => {
-                lines.push(line)?;
-                Ok(Some(Place::Body))
-            }
-            None => Ok(None),
-        },
-    }
-}
-
-/// The place behind a line of the opening: a blank one changes nothing, and the head leads to the next place.
-fn after_head(place: Place, text: &[u8], head: &[u8], next: Place) -> Option<Place>
-    ensures { IsAfterHead place text.now head.now next result }
-{
-    if is_blank(text) {
-        return Some(place);
-    }
-    if same(text, head) {
-        return Some(next);
-    }
-    None
+    ScriptError::Fault(ScriptFault { line, kind })
 }

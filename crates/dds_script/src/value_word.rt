@@ -13,7 +13,7 @@ pub fn read_value(alloc: Global, word: &[u8]) -> Result<Option<Value>, Memory>
     ensures { IfOk result (λ value. IsRead (IsValueWord word.now) value) }
 {
     if same(word, b"-") {
-        return value_of(alloc, &[]);
+        return Ok(Value::from_vec(Vec::new(alloc)));
     }
     if word.is_empty() {
         return Ok(None);
@@ -22,18 +22,8 @@ pub fn read_value(alloc: Global, word: &[u8]) -> Result<Option<Value>, Memory>
         return Ok(None);
     }
     match read_hexadecimal(alloc, word)? {
-        Some(bytes) => value_of(alloc, bytes.as_slice()),
+        Some(bytes) => Ok(Value::from_vec(bytes)),
         None => Ok(None),
-    }
-}
-
-fn value_of(alloc: Global, bytes: &[u8]) -> Result<Option<Value>, Memory>
-    requires { length bytes.now ≤ 60000 }
-    ensures { IfOk result (λ value. value ≡ Some bytes.now) }
-{
-    match Value::of(alloc, bytes) {
-        Ok(value) => Ok(Some(value)),
-        Err(_) => Err(Memory),
     }
 }
 

@@ -1,7 +1,8 @@
 //! Finding the end of a line or a word, and the fixed words that a text begins with.
 
 ghost use Rattle.std.specs.Prelude.{◌≡◌, ◌++◌, ℕ, List, ◌↔◌, IsTrue, MatchOption};
-ghost use Rattle.dds_script.specs.Words.{IsBlank, IsFound};
+ghost use Rattle.std.specs.Str.{bytes_eq};
+ghost use Rattle.dds_script.specs.Words.{IsFound, is_ascii, is_blank};
 
 /// The place of the first byte that is `mark`.
 pub fn find(bytes: &[u8], mark: u8) -> Option<usize>
@@ -17,7 +18,8 @@ pub fn find(bytes: &[u8], mark: u8) -> Option<usize>
 
 /// Whether the two texts are the same.
 pub fn same(text: &[u8], other: &[u8]) -> bool
-    ensures { IsTrue result ↔ (text.now ≡ other.now) }
+    ensures value { result ≡ bytes_eq text.now other.now }
+    ensures same { IsTrue result ↔ (text.now ≡ other.now) }
 {
     text == other
 }
@@ -33,12 +35,19 @@ pub fn after<'a>(text: &'a [u8], beginning: &[u8]) -> Option<&'a [u8]>
     }
 }
 
-/// Whether the line is empty or a comment.
+/// Whether each byte is ASCII.
+pub fn is_ascii(text: &[u8]) -> bool
+    ensures { result ≡ is_ascii text.now }
+{
+    text.iter().all(|byte| *byte < 128)
+}
+
+/// Whether the line is empty or begins with `#`.
 pub fn is_blank(text: &[u8]) -> bool
-    ensures { IsTrue result ↔ IsBlank text.now }
+    ensures { result ≡ is_blank text.now }
 {
     match text {
         [] => true,
-        [first, rest @ ..] => *first == b'#' && rest.is_ascii(),
+        [first, ..] => *first == b'#',
     }
 }

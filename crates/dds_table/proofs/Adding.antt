@@ -20,7 +20,7 @@ use Rattle.dds_table.specs.Answers.{WroteValue, Changed, Made}
 use Rattle.dds_table.specs.declared.table.Slot.{Slot}
 use Rattle.dds_table.specs.declared.table.Table.{Table}
 use Rattle.dds_table.proofs.Uses.{same-self, buckets-set, bucket-within}
-use Rattle.dds_table.proofs.ReadBack.{width-of, held-width}
+use Rattle.dds_pages.proofs.ReadBack.{width-of, held-width}
 use Rattle.dds_table.proofs.Chains.{Kept, placed-kept, chain-kept, found-kept, stored-value, first-page-small}
 use Rattle.dds_table.proofs.Contents.{content-found}
 use Rattle.dds_table.proofs.Writing.{page-new, page-other, other-zero}
@@ -100,12 +100,12 @@ get-added m k v q was e = get-insert nat_cmp_total m k v q ∙ ap (λ (b : Bool)
 -- a pair of a new key was written, and is in the table
 pub pair-added : (a : Pages) (free0 free1 free2 : List ℕ) (fresh0 fresh1 fresh2 : ℕ) (t now : Table) (slot : Slot) (held : Held) (value bytes : List ℕ) (told1 told3 : Option Pages) →
     (w : WroteValue a free0 fresh0 told1 held slot.overflow value) → IsHeld held → ((n : ℕ) → vacant n free1 fresh1 + times n slot.overflow ≡ vacant n free0 fresh0) → ((n : ℕ) → vacant n free2 fresh2 + same n slot.page ≡ vacant n free1 fresh1) →
-    slot.page < 2 ^ 64 - 1 → slot.key < 2 ^ 64 → ((n : ℕ) → vacant n free0 fresh0 + table_uses n t ≤ 1) → IsIndex t → IsTable a t → t.len < 16384 → IsIndex now →
+    slot.page < 2 ^ 64 - 1 → slot.key < 2 ^ 64 → slot.len ≡ length value → ((n : ℕ) → vacant n free0 fresh0 + table_uses n t ≤ 1) → IsIndex t → IsTable a t → t.len < 16384 → IsIndex now →
     now.root ≡ t.root → now.len ≡ (if nat_lt t.len 16384 then t.len + 1 else t.len) → now.buckets.items ≡ set t.buckets.items (bucket_no slot.key) (slot ∷ get_or t.buckets.items (bucket_no slot.key) []) →
     bytes ≡ bucket_bytes (record { pairs = record { key = slot.key; held = held } ∷ []; next = first_page (get_or t.buckets.items (bucket_no slot.key) []) }) →
     told3 ≡ Some (insert (insert w.b slot.page bytes) now.root (root_bytes 2 (record { pairs = now.len; firsts = map first_page now.buckets.items }))) →
     Changed a free0 fresh0 t told3 now (insert (content a t.root) slot.key value)
-pair-added a free0 free1 free2 fresh0 fresh1 fresh2 t now slot held value bytes told1 told3 w lawful n1 n2 below key single x tab room xnow root len buckets page_is is =
+pair-added a free0 free1 free2 fresh0 fresh1 fresh2 t now slot held value bytes told1 told3 w lawful n1 n2 below key long single x tab room xnow root len buckets page_is is =
     let at : ℕ = bucket_no slot.key in
     let old : List Slot = get_or t.buckets.items (bucket_no slot.key) [] in
     let new_root : List ℕ = root_bytes 2 (record { pairs = now.len; firsts = map first_page now.buckets.items }) in
@@ -124,7 +124,7 @@ pair-added a free0 free1 free2 fresh0 fresh1 fresh2 t now slot held value bytes 
     λ i. kept-twice a w.b slot.page now.root bytes new_root (λ n. chain_uses n (get_or t.buckets.items i [])) (λ n used. w.kept n (let c = bucket-within n t.buckets.items i in omega (arith, single n, used, c))) (chain-none slot.page t.buckets.items i page_alone) (chain-none now.root t.buckets.items i root_alone) in
     let kept_over : Kept w.b b (λ n. times n slot.overflow) = kept-twice w.b w.b slot.page now.root bytes new_root (λ n. times n slot.overflow) (λ n used. refl) over_page over_root in
     let page_new : page_at b slot.page ≡ bucket_bytes (record { pairs = record { key = slot.key; held = held } ∷ []; next = first_page old }) = page-other b3 now.root new_root slot.page page_other ∙ page-new w.b slot.page bytes ∙ page_is in
-    let stored : IsStored b slot (first_page old) = record { value = value; held = held; page = page_new; placed = placed-kept w.b b held slot.overflow value w.placed kept_over; lawful = lawful; key = key; number = below } in
+    let stored : IsStored b slot (first_page old) = record { value = value; held = held; page = page_new; placed = placed-kept w.b b held slot.overflow value w.placed kept_over; lawful = lawful; len = long; key = key; number = below } in
     let chain_old : IsChain b old = chain-kept a b old (tab.chains (bucket_no slot.key)) (kept_old (bucket_no slot.key)) in
     let value_is : slot_value b slot ≡ value = stored-value b slot (first_page old) stored (first-page-small b old chain_old) in
     let chains : (i : ℕ) → IsChain b (get_or now.buckets.items i []) = each-set (λ i. IsChain b) t.buckets.items now.buckets.items (bucket_no slot.key) (slot ∷ old) buckets within (stored, chain_old) (λ i other. chain-kept a b (get_or t.buckets.items i []) (tab.chains i) (kept_old i)) in

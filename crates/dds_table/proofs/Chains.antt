@@ -7,11 +7,12 @@ use Rattle.dds_pages.specs.Bucket.{Bucket}
 use Rattle.dds_pages.specs.Overflow.{Overflow}
 use Rattle.dds_pages.specs.declared.bucket.Held.{Held}
 use Rattle.dds_pages.specs.declared.bucket.Held.TheVariants.{Here, Chain}
-use Rattle.dds_table.specs.Content.{bucket_in, overflow_in, bytes_then, chain_bytes, whole, value_in, pairs_then, chain_pairs}
+use Rattle.dds_table.specs.Content.{bytes_then, chain_bytes, whole, value_in, pairs_then, chain_pairs}
+use Rattle.dds_pages.specs.Said.{bucket_in, overflow_in}
 use Rattle.dds_table.specs.Index.{times, slot_uses, chain_uses, first_page, first_number, IsSpread, IsPlaced, IsStored, IsChain, first_value, slot_value, found}
 use Rattle.dds_table.specs.declared.table.Slot.{Slot}
 use Rattle.dds_table.proofs.Uses.{same-self}
-use Rattle.dds_table.proofs.ReadBack.{bucket-back, overflow-back}
+use Rattle.dds_pages.proofs.ReadBack.{bucket-back, overflow-back}
 
 -- pages that are used didn't change
 abbrev pub Kept : Pages → Pages → (ℕ → ℕ) → Type 0
@@ -36,6 +37,7 @@ stored-kept a b slot next h k =
       page = k slot.page (omega (arith, s)) ∙ h.page;
       placed = placed-kept a b h.held slot.overflow h.value h.placed (λ n used. k n (omega arith));
       lawful = h.lawful;
+      len = h.len;
       key = h.key;
       number = h.number;
     }

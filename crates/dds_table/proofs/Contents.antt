@@ -10,12 +10,13 @@ use Rattle.dds_disk.specs.Pages.{Pages, page_at}
 use Rattle.dds_disk.proofs.Pages.{alike}
 use Rattle.dds_base.specs.Name.{Name}
 use Rattle.dds_pages.specs.Root.{Root}
-use Rattle.dds_table.specs.Content.{root_in, firsts_in, chain_pairs, content}
+use Rattle.dds_table.specs.Content.{firsts_in, chain_pairs, content}
+use Rattle.dds_pages.specs.Said.{root_in}
 use Rattle.dds_base.specs.Place.{bucket as bucket_no}
 use Rattle.dds_table.specs.Index.{first_page, IsChain, found, AreKeysOf, total, IsIndex, IsTable, Misses, slot_value}
 use Rattle.dds_table.specs.declared.table.Slot.{Slot}
 use Rattle.dds_table.specs.declared.table.Table.{Table}
-use Rattle.dds_table.proofs.ReadBack.{AreSmall, root-back}
+use Rattle.dds_pages.proofs.ReadBack.{AreSmall, root-back}
 use Rattle.dds_table.proofs.Chains.{slot_pairs, chain-pairs, first-page-small}
 
 abbrev or_later : Option (List ℕ) → Option (List ℕ) → Option (List ℕ)

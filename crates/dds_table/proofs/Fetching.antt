@@ -7,9 +7,9 @@ use Rattle.dds_pages.specs.Overflow.{Overflow}
 use Rattle.dds_table.specs.Answers.{IsReadAs, IsNoPage}
 use Rattle.dds_table.specs.declared.fault.TableFault.{TableFault}
 use Rattle.dds_table.specs.declared.fault.TableFault.TheVariants.{Disk, Page, Memory}
-use Rattle.dds_table.specs.Content.{overflow_in}
+use Rattle.dds_pages.specs.Said.{overflow_in}
 use Rattle.dds_table.specs.Index.{first_number, IsSpread}
-use Rattle.dds_table.proofs.ReadBack.{overflow-back}
+use Rattle.dds_pages.proofs.ReadBack.{overflow-back}
 use Rattle.dds_table.proofs.Chains.{first-number-small}
 
 -- what is known while a value's bytes are read

@@ -1,5 +1,4 @@
 pub mod Uses
-pub mod ReadBack
 pub mod Chains
 pub mod Contents
 pub mod Reading
@@ -14,3 +13,9 @@ pub mod Parts
 pub mod NamedMaps
 pub mod Splits
 pub mod Turns
+pub mod OldPages
+pub mod Lifts
+pub mod TablePlaces
+pub mod Parted
+pub mod Refusing
+pub mod Knowing

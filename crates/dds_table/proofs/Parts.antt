@@ -135,7 +135,7 @@ found-next t slots b after (Some k) x below e inv h some =
       ]) refl,
     )
 
-found-in : (a : Pages) (slots : List Slot) (q : ℕ) → is_some (found a slots q) ≡ in_chain slots q
+pub found-in : (a : Pages) (slots : List Slot) (q : ℕ) → is_some (found a slots q) ≡ in_chain slots q
 found-in a [] q = refl
 found-in a (s ∷ ss) q = elim (s.key == q) as (λ u. is_some (cond u (Some (slot_value a s)) (found a ss q)) ≡ is_some (cond u (Some 0) (option_map suc (place_of ss q)))) [
   | true ↦ refl

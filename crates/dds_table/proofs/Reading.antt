@@ -5,7 +5,7 @@ use Rattle.dds_pages.specs.Fields.{form_2}
 use Rattle.dds_pages.specs.declared.fault.PageFault.{PageFault}
 use Rattle.dds_pages.specs.Bucket.{Bucket, IsBucketRead}
 use Rattle.dds_pages.specs.Overflow.{Overflow, IsOverflowRead}
-use Rattle.dds_table.specs.Content.{bucket_in, overflow_in}
+use Rattle.dds_pages.specs.Said.{bucket_in, overflow_in}
 use Rattle.dds_pages.specs.declared.fault.PageFault.TheVariants.{NotAPage, Memory}
 use Rattle.dds_table.specs.Index.{vacant}
 use Rattle.dds_table.proofs.Uses.{take-free, same-self}

@@ -63,6 +63,7 @@ past-here a pred more next h n c single =
       page = page-new a pred.page x;
       placed = placed-kept a b h.held pred.overflow h.value h.placed (kept-insert a pred.page x (λ n. times n pred.overflow) (omega arith));
       lawful = h.lawful;
+      len = h.len;
       key = h.key;
       number = h.number;
     } in
@@ -152,7 +153,7 @@ misses-found a key q (s ∷ ss) h t =
 none-cond : (a : Pages) (key q : ℕ) (slots : List Slot) → Misses key slots → found a slots q ≡ cond (key == q) None (found a slots q)
 none-cond a key q slots h = (elim (key == q) as (λ t. (key == q) ≡ t → found a slots q ≡ cond t None (found a slots q)) [ true ↦ λ t. misses-found a key q slots h t | false ↦ λ t. refl ]) refl
 
-found-out : (a : Pages) (name : Name) (b key q : ℕ) (slots : List Slot) (place : ℕ) → AreKeysOf name b slots → place_of slots key ≡ Some place → found a (remove slots place) q ≡ cond (key == q) None (found a slots q)
+pub found-out : (a : Pages) (name : Name) (b key q : ℕ) (slots : List Slot) (place : ℕ) → AreKeysOf name b slots → place_of slots key ≡ Some place → found a (remove slots place) q ≡ cond (key == q) None (found a slots q)
 found-out a name b key q [] place h p = cc
 found-out a name b key q (s ∷ ss) zero h p = (elim (s.key == key) as (λ t. (s.key == key) ≡ t → cond t (Some 0) (option_map suc (place_of ss key)) ≡ Some 0 → found a ss q ≡ cond (key == q) None (found a (s ∷ ss) q)) [
   | true ↦ λ t p.

@@ -5,7 +5,7 @@ use Rattle.dds_disk.specs.Pages.{Pages, page_at}
 use Rattle.dds_table.specs.Index.{first_page, place_of, found, slot_value, IsStored, IsChain}
 use Rattle.dds_pages.specs.Bucket.{Bucket, IsHeld}
 use Rattle.dds_pages.specs.declared.bucket.Held.{Held}
-use Rattle.dds_table.specs.Content.{bucket_in}
+use Rattle.dds_pages.specs.Said.{bucket_in}
 use Rattle.dds_base.specs.Place.{bucket as bucket_no}
 use Rattle.dds_table.specs.Index.{IsPlaced}
 use Rattle.dds_table.specs.declared.table.Slot.{Slot}

@@ -3,10 +3,10 @@ use Rattle.std.specs.Prelude.{ℕ, zero, suc, ◌-◌, ◌^◌, ◌==◌, if◌t
 use Rattle.std.specs.Ordering.{nat_cmp}
 use Rattle.std.specs.FinMap.{FinMap, from_entries}
 use Rattle.dds_disk.specs.Pages.{Pages, page_at}
-use Rattle.dds_pages.specs.Fields.{form_2}
-use Rattle.dds_pages.specs.Root.{Root, root_fault, root_of}
-use Rattle.dds_pages.specs.Bucket.{Bucket, bucket_fault, bucket_of}
-use Rattle.dds_pages.specs.Overflow.{Overflow, overflow_fault, overflow_of}
+use Rattle.dds_pages.specs.Said.{root_in, bucket_in, overflow_in}
+use Rattle.dds_pages.specs.Root.{Root}
+use Rattle.dds_pages.specs.Bucket.{Bucket}
+use Rattle.dds_pages.specs.Overflow.{Overflow}
 use Rattle.dds_pages.specs.declared.bucket.Held.{Held}
 use Rattle.dds_pages.specs.declared.bucket.Held.TheVariants.{Here, Chain}
 use Rattle.dds_pages.specs.declared.bucket.PagePair.{PagePair}
@@ -14,23 +14,6 @@ use Rattle.dds_pages.specs.declared.bucket.PagePair.{PagePair}
 -- the pairs of a table
 abbrev pub Map : Type 0
 Map = FinMap nat_cmp (List ℕ)
-
--- what was read, where no field is refused
-abbrev pub accepted : {X : Type 0} → Option ℕ → X → Option X
-accepted None x = Some x
-accepted (Some at) x = None
-
--- what a page says as a root page
-unfoldable pub root_in : List ℕ → Option Root
-root_in page = accepted (root_fault 2 page) (root_of page)
-
--- what a page says as a bucket page
-unfoldable pub bucket_in : List ℕ → Option Bucket
-bucket_in page = accepted (bucket_fault form_2 page) (bucket_of form_2 page)
-
--- what a page says as an overflow page
-unfoldable pub overflow_in : List ℕ → Option Overflow
-overflow_in page = accepted (overflow_fault page) (overflow_of page)
 
 abbrev pub bytes_then : Option Overflow → (ℕ → List ℕ) → List ℕ
 bytes_then None rest = []

@@ -8,7 +8,8 @@ use Rattle.dds_pages.specs.Overflow.{overflow_bytes}
 use Rattle.dds_pages.specs.declared.bucket.Held.{Held}
 use Rattle.dds_pages.specs.declared.bucket.Held.TheVariants.{Here, Chain}
 use Rattle.dds_pages.specs.declared.bucket.PagePair.{PagePair}
-use Rattle.dds_table.specs.Content.{value_in, bucket_in}
+use Rattle.dds_table.specs.Content.{value_in}
+use Rattle.dds_pages.specs.Said.{bucket_in}
 use Rattle.dds_base.specs.Place.{bucket as bucket_no}
 use Rattle.dds_table.specs.declared.table.Slot.{Slot}
 use Rattle.dds_table.specs.declared.table.Table.{Table}
@@ -73,6 +74,7 @@ pub record IsStored (pages : Pages) (slot : Slot) (next : ℕ) : Type 0 where
   pub page : page_at pages slot.page ≡ bucket_bytes (record { pairs = record { key = slot.key; held = held } ∷ []; next = next })
   pub placed : IsPlaced pages held slot.overflow value
   pub lawful : IsHeld held
+  pub len : slot.len ≡ length value
   pub key : slot.key < 2 ^ 64
   pub number : slot.page < 2 ^ 64 - 1
 

@@ -1,6 +1,6 @@
 -- How a table becomes the tables of its name's two halves.
-use Rattle.std.specs.Prelude.{ℕ, ◌≡◌, ◌+◌, ◌≤◌, Bool, true, false, List, [], ◌∷◌, ◌++◌, Option, Some, None, ◌⊎◌, if◌then◌else◌}
-use Rattle.std.specs.FinMap.{get, insert, remove, retain_keys, len}
+use Rattle.std.specs.Prelude.{ℕ, ◌≡◌, ◌+◌, ◌≤◌, Bool, true, false, List, [], ◌∷◌, ◌++◌, Option, Some, None, ◌⊎◌, IsTrue, if◌then◌else◌}
+use Rattle.std.specs.FinMap.{get, insert, remove, retain_keys, contains_key, len}
 use Rattle.dds_disk.specs.Pages.{Pages}
 use Rattle.dds_base.specs.Name.{Name, covers, same_name}
 use Rattle.dds_groups.specs.Names.{low_half, high_half}
@@ -10,6 +10,16 @@ use Rattle.dds_table.specs.Store.{Named, maps_of, map_named, with_map, Holds}
 -- the pairs of a map whose keys a name covers
 abbrev pub covered : Map → Name → Map
 covered m name = retain_keys m (λ key. covers name key)
+
+-- the name covers each key of the map
+abbrev pub KeysAreOf : Name → Map → Type 0
+KeysAreOf name m = (key : ℕ) → contains_key m key ≡ true → IsTrue (covers name key)
+
+-- each pair of the whole map is in just one of two maps, and these have no other pairs
+pub record IsParted (whole low high : Map) : Type 0 where
+  pub once : (key : ℕ) (value : List ℕ) → get whole key ≡ Some value → ((get low key ≡ Some value) × (get high key ≡ None)) ⊎ ((get low key ≡ None) × (get high key ≡ Some value))
+  pub of_low : (key : ℕ) (value : List ℕ) → get low key ≡ Some value → get whole key ≡ Some value
+  pub of_high : (key : ℕ) (value : List ℕ) → get high key ≡ Some value → get whole key ≡ Some value
 
 -- the tables of the two halves of a name
 abbrev pub halves_of : Name → Map → Map → List (Name × Map)

@@ -7,28 +7,38 @@ use Rattle.dds_base.specs.Name.{Name, same_name}
 use Rattle.dds_cache.specs.Kept.{CacheState, cache_code}
 use Rattle.dds_table.specs.Content.{Map, content}
 use Rattle.dds_table.specs.Index.{vacant, tables_use, IsIndex, IsTable}
+use Rattle.dds_table.specs.declared.table.Slot.{Slot}
 use Rattle.dds_table.specs.declared.table.Table.{Table}
 
 -- a table's name and its root page
 abbrev pub Named : Type 0
 Named = Name × ℕ
 
--- a store: its cache, the name and root page of each table, and whether a call failed
+-- a store: its cache, the name and root page of each table, the slots in memory of each table's buckets, and whether a
+-- call failed
 pub record StoreState (D : Type 0) : Type 0 where
   pub cache : CacheState D
   pub tables : List Named
+  pub slots : List (List (List Slot))
   pub failed : Bool
 
 abbrev pub name_code : Coded Name
 name_code = code_by (ℕ × ℕ) (coded× coded_ℕ coded_ℕ) (λ n. (n.bits, n.depth)) (λ p. record { bits = p.0; depth = p.1 }) (λ _. refl)
 
+abbrev pub slot_code : Coded Slot
+slot_code = code_by (ℕ × (ℕ × (ℕ × List ℕ))) (coded× coded_ℕ (coded× coded_ℕ (coded× coded_ℕ (coded_list coded_ℕ)))) (λ s. (s.key, (s.page, (s.len, s.overflow)))) (λ p. record { key = p.0; page = p.1.0; len = p.1.1.0; overflow = p.1.1.1 }) (λ _. refl)
+
 abbrev pub store_code : {D : Type 0} → Coded D → Coded (StoreState D)
 store_code {D = D} d =
-    code_by (CacheState D × (List (Name × ℕ) × Bool)) (coded× (cache_code d) (coded× (coded_list (coded× name_code coded_ℕ)) coded_bool))
-    (λ s. (s.cache, (s.tables, s.failed))) (λ p. record { cache = p.0; tables = p.1.0; failed = p.1.1 }) (λ _. refl)
+    code_by (CacheState D × (List (Name × ℕ) × (List (List (List Slot)) × Bool))) (coded× (cache_code d) (coded× (coded_list (coded× name_code coded_ℕ)) (coded× (coded_list (coded_list (coded_list slot_code))) coded_bool)))
+    (λ s. (s.cache, (s.tables, (s.slots, s.failed)))) (λ p. record { cache = p.0; tables = p.1.0; slots = p.1.1.0; failed = p.1.1.1 }) (λ _. refl)
 
 abbrev pub named : List Table → List Named
 named tables = map (λ table. (table.name, table.root)) tables
+
+-- the slots of the buckets of each table
+abbrev pub slots_of : List Table → List (List (List Slot))
+slots_of tables = map (λ table. table.buckets.items) tables
 
 abbrev pub names : List Named → List Name
 names tables = map (λ table. table.0) tables
@@ -59,6 +69,12 @@ with_map (table ∷ tables) name m = if same_name table.0 name then (table.0, m)
 abbrev pub without_table : List Named → Name → List Named
 without_table [] name = []
 without_table (table ∷ tables) name = if same_name table.0 name then tables else table ∷ without_table tables name
+
+-- the slots of those tables
+abbrev pub without_slots : List Named → List (List (List Slot)) → Name → List (List (List Slot))
+without_slots [] slots name = slots
+without_slots (table ∷ tables) [] name = []
+without_slots (table ∷ tables) (buckets ∷ slots) name = if same_name table.0 name then slots else buckets ∷ without_slots tables slots name
 
 abbrev pub AllIndex : List Table → Type 0
 AllIndex [] = Unit {0}

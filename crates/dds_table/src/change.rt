@@ -1,6 +1,6 @@
 //! Binding and unbinding a key of a table.
 
-ghost use Rattle.std.specs.Prelude.{◌≡◌, ℕ, ◌+◌, ◌<◌, ◌≤◌, Some, false, IsTrue, IfOk, IfErr, OnOk, IsErrOf, None};
+ghost use Rattle.std.specs.Prelude.{◌≡◌, ℕ, ◌+◌, ◌<◌, ◌≤◌, Some, false, IsTrue, IfOk, IfErr, OnOk, IsErrOf, None, ◌==◌, ◌||◌, ◌&&◌, not};
 ghost use Rattle.std.specs.FinMap.{insert, remove as without, contains_key};
 ghost use Rattle.dds_base.specs.Name.{covers};
 ghost use Rattle.dds_base.specs.Outside.{Rose};
@@ -8,6 +8,8 @@ ghost use Rattle.dds_disk.specs.Pages.{Pages};
 ghost use Rattle.dds_table.specs.Content.{content};
 ghost use Rattle.dds_table.specs.Index.{IsTable, IsIndex, table_uses, vacant};
 ghost use Rattle.dds_table.specs.Answers.{IsNoPage, Changed};
+ghost use Rattle.dds_table.specs.Part.{has_key};
+ghost use Rattle.dds_table.specs.Lawful.{IsTableRefused};
 
 use crate::fault::TableFault;
 use crate::pairs::add_pair;
@@ -32,8 +34,11 @@ pub(crate) fn bind<D: Disk>(
     ensures root { OnOk result (table.new.root ≡ table.old.root) }
     ensures number { OnOk result ((n : ℕ) → vacant n space.new.free.items space.new.fresh + table_uses n table.new ≡ vacant n space.old.free.items space.old.fresh + table_uses n table.old) }
     ensures told { (a : Pages) → D.pages space.old.cache.disk ≡ Some a → IsTable a table.old → (contains_key (content a table.old.root) key ≡ false → table.old.len < 16384) → OnOk result (Changed a space.old.free.items space.old.fresh table.old (D.pages space.new.cache.disk) table.new (insert (content a table.old.root) key value.now)) }
+    ensures known { IfOk result (λ was. was ≡ has_key table.old key) }
+    ensures keys { OnOk result ((q : ℕ) → has_key table.new q ≡ (key == q || has_key table.old q)) }
     ensures was { (a : Pages) → D.pages space.old.cache.disk ≡ Some a → IsTable a table.old → IfOk result (λ was. was ≡ contains_key (content a table.old.root) key) }
     ensures lawful { (a : Pages) → D.pages space.old.cache.disk ≡ Some a → IsTable a table.old → IfErr result IsNoPage }
+    ensures refused { IfErr result (IsTableRefused space.new.cache.kept table.new.buckets.items) }
     ensures untold { D.pages space.old.cache.disk ≡ None → D.pages space.new.cache.disk ≡ None }
     ensures rose { IsErrOf result TableFault.Disk → Rose (D.faults space.old.cache.disk) (D.faults space.new.cache.disk) }
     ensures steady { OnOk result (D.faults space.new.cache.disk ≡ D.faults space.old.cache.disk) }
@@ -65,8 +70,11 @@ pub(crate) fn unbind<D: Disk>(
     ensures root { OnOk result (table.new.root ≡ table.old.root) }
     ensures number { OnOk result ((n : ℕ) → vacant n space.new.free.items space.new.fresh + table_uses n table.new ≡ vacant n space.old.free.items space.old.fresh + table_uses n table.old) }
     ensures told { (a : Pages) → D.pages space.old.cache.disk ≡ Some a → IsTable a table.old → OnOk result (Changed a space.old.free.items space.old.fresh table.old (D.pages space.new.cache.disk) table.new (without (content a table.old.root) key)) }
+    ensures known { IfOk result (λ was. was ≡ has_key table.old key) }
+    ensures keys { OnOk result ((q : ℕ) → has_key table.new q ≡ (not (key == q) && has_key table.old q)) }
     ensures was { (a : Pages) → D.pages space.old.cache.disk ≡ Some a → IsTable a table.old → IfOk result (λ was. was ≡ contains_key (content a table.old.root) key) }
     ensures lawful { (a : Pages) → D.pages space.old.cache.disk ≡ Some a → IsTable a table.old → IfErr result IsNoPage }
+    ensures refused { IfErr result (IsTableRefused space.new.cache.kept table.new.buckets.items) }
     ensures untold { D.pages space.old.cache.disk ≡ None → D.pages space.new.cache.disk ≡ None }
     ensures rose { IsErrOf result TableFault.Disk → Rose (D.faults space.old.cache.disk) (D.faults space.new.cache.disk) }
     ensures steady { OnOk result (D.faults space.new.cache.disk ≡ D.faults space.old.cache.disk) }

@@ -3,8 +3,14 @@
 
 mod change;
 pub mod fault;
+pub mod lift;
+#[cfg(test)]
+mod lift_tests;
+#[cfg(test)]
+mod page_tests;
 mod pairs;
 pub mod part;
+mod places;
 mod removal;
 mod space;
 pub mod split;
@@ -13,3 +19,4 @@ mod table;
 #[cfg(test)]
 mod tests;
 mod value;
+mod walk;

@@ -1,6 +1,6 @@
 //! The pairs of a table: reading, adding and taking out one of them.
 
-ghost use Rattle.std.specs.Prelude.{◌≡◌, ℕ, ◌+◌, ◌-◌, ◌<◌, ◌≤◌, ◌^◌, ◌∷◌, [], Some, None, option_copied, IsTrue, false, length, get_or, map, IfOk, IfErr, OnOk, OnErr, IsErrOf};
+ghost use Rattle.std.specs.Prelude.{◌≡◌, ◌==◌, ◌||◌, is_some, true, ℕ, ◌+◌, ◌-◌, ◌<◌, ◌≤◌, ◌^◌, ◌∷◌, [], Some, None, option_copied, IsTrue, false, length, get_or, map, IfOk, IfErr, OnOk, OnErr, IsErrOf};
 ghost use Rattle.std.specs.FinMap.{empty, get, insert, remove, contains_key};
 ghost use Rattle.dds_base.specs.Name.{covers};
 ghost use Rattle.dds_base.specs.Outside.{Rose};
@@ -8,15 +8,18 @@ ghost use Rattle.dds_disk.specs.Pages.{Pages, page_at};
 ghost use Rattle.dds_pages.specs.Root.{Root, root_bytes};
 ghost use Rattle.dds_pages.specs.Bucket.{Bucket, IsHeld, FitsAPage, bucket_bytes};
 ghost use Rattle.dds_pages.specs.declared.bucket.Held.{Held};
-ghost use Rattle.dds_table.specs.Content.{bucket_in, content};
+ghost use Rattle.dds_table.specs.Content.{content};
+ghost use Rattle.dds_pages.specs.Said.{bucket_in};
 ghost use Rattle.dds_base.specs.Place.{bucket as bucket_no};
 ghost use Rattle.dds_table.specs.Index.{first_page, IsStored, IsTable, IsIndex, Misses, place_of, slot_value, table_uses, vacant};
+ghost use Rattle.dds_table.specs.Part.{has_key};
+ghost use Rattle.dds_table.specs.Lawful.{IsGivenAs, IsSlotRefused, IsTableRefused, is_pair_of};
 ghost use Rattle.dds_table.specs.Answers.{IsNoPage, IsReadAs, Changed, Made};
 
 use crate::fault::TableFault;
 use crate::space::Space;
 use crate::table::{Slot, Table, first_page, no_buckets, place_of};
-use crate::value::{Placed, fetch, place};
+use crate::value::{Placed, fetch, is_place_of, len_of, place};
 use dds_base::items::Items;
 use dds_base::memory::Memory;
 use dds_base::name::LeafName;
@@ -45,6 +48,7 @@ pub(crate) fn read_bucket<D: Disk>(
 ) -> Result<BucketPage, TableFault>
     ensures same { D.pages space.new.cache.disk ≡ D.pages space.old.cache.disk }
     ensures told { (a : Pages) → D.pages space.old.cache.disk ≡ Some a → IsReadAs (bucket_in (page_at a page)) page result }
+    ensures given { IsGivenAs bucket_in space.new.cache.kept page result }
     ensures free { space.new.free.items ≡ space.old.free.items }
     ensures fresh { space.new.fresh ≡ space.old.fresh }
     ensures rose { IsErrOf result TableFault.Disk → Rose (D.faults space.old.cache.disk) (D.faults space.new.cache.disk) }
@@ -58,23 +62,18 @@ pub(crate) fn read_bucket<D: Disk>(
     decode(space.alloc, page, &bytes)
 }
 
-/// Where the value of the page's first pair stands, if that pair has the key.
-fn held_of(bucket: &BucketPage, key: u64) -> Option<&Held>
-    ensures { (held : Held) → bucket.now.pairs ≡ record { key = key; held = held } ∷ [] → option_copied result ≡ Some held }
+/// Whether there is just one pair, the slot's.
+fn is_pair_of(pairs: &[PagePair], slot: &Slot) -> bool
+    ensures { result ≡ is_pair_of slot.now pairs.now }
 {
-    let pairs = bucket.pairs();
-    if pairs.is_empty() {
-        return None;
+    if pairs.len() != 1 {
+        return false;
     }
     let pair = &pairs[0];
-    if pair.key == key {
-        Some(&pair.held)
-    } else {
-        None
-    }
+    pair.key == slot.key && is_place_of(&pair.held, slot)
 }
 
-/// Reads the value of a slot; `None` where its page doesn't begin with the slot's key.
+/// Reads the value of a slot. Its page is refused where it hasn't just the slot's pair.
 pub(crate) fn read_value<D: Disk>(
     space: &mut Space<D>,
     slot: &Slot,
@@ -82,6 +81,8 @@ pub(crate) fn read_value<D: Disk>(
     ensures same { D.pages space.new.cache.disk ≡ D.pages space.old.cache.disk }
     ensures told { (a : Pages) (next : ℕ) → D.pages space.old.cache.disk ≡ Some a → IsStored a slot.now next → next < 2 ^ 64 → IfOk result (λ value. value ≡ Some (slot_value a slot.now)) }
     ensures lawful { (a : Pages) (next : ℕ) → D.pages space.old.cache.disk ≡ Some a → IsStored a slot.now next → next < 2 ^ 64 → IfErr result IsNoPage }
+    ensures refused { IfErr result (IsSlotRefused space.new.cache.kept slot.now) }
+    ensures some { IfOk result (λ value. is_some value ≡ true) }
     ensures free { space.new.free.items ≡ space.old.free.items }
     ensures fresh { space.new.fresh ≡ space.old.fresh }
     ensures rose { IsErrOf result TableFault.Disk → Rose (D.faults space.old.cache.disk) (D.faults space.new.cache.disk) }
@@ -92,12 +93,14 @@ pub(crate) fn read_value<D: Disk>(
         Ok(bucket) => bucket,
         Err(fault) => return Err(fault),
     };
-    match held_of(&bucket, slot.key) {
-        None => Ok(None),
-        Some(held) => match fetch(space, held, slot.overflow.as_slice()) {
-            Ok(value) => Ok(Some(value)),
-            Err(fault) => Err(fault),
-        },
+    let pairs = bucket.pairs();
+    if !is_pair_of(pairs, slot) {
+        return Err(TableFault::Page { page: slot.page });
+    }
+    let pair = &pairs[0];
+    match fetch(space, &pair.held, slot) {
+        Ok(value) => Ok(Some(value)),
+        Err(fault) => Err(fault),
     }
 }
 
@@ -111,6 +114,8 @@ pub(crate) fn get<D: Disk>(
     ensures same { D.pages space.new.cache.disk ≡ D.pages space.old.cache.disk }
     ensures told { (a : Pages) → D.pages space.old.cache.disk ≡ Some a → IsTable a table.now → IfOk result (λ value. value ≡ get (content a table.now.root) key) }
     ensures lawful { (a : Pages) → D.pages space.old.cache.disk ≡ Some a → IsTable a table.now → IfErr result IsNoPage }
+    ensures refused { IfErr result (IsTableRefused space.new.cache.kept table.now.buckets.items) }
+    ensures known { IfOk result (λ value. is_some value ≡ has_key table.now key) }
     ensures free { space.new.free.items ≡ space.old.free.items }
     ensures fresh { space.new.fresh ≡ space.old.fresh }
     ensures rose { IsErrOf result TableFault.Disk → Rose (D.faults space.old.cache.disk) (D.faults space.new.cache.disk) }
@@ -193,6 +198,7 @@ pub(crate) fn add_pair<D: Disk>(
     ensures name { OnOk result (table.new.name ≡ table.old.name) }
     ensures root { OnOk result (table.new.root ≡ table.old.root) }
     ensures number { OnOk result ((n : ℕ) → vacant n space.new.free.items space.new.fresh + table_uses n table.new ≡ vacant n space.old.free.items space.old.fresh + table_uses n table.old) }
+    ensures keys { OnOk result ((q : ℕ) → has_key table.new q ≡ (key == q || has_key table.old q)) }
     ensures told { (a : Pages) → D.pages space.old.cache.disk ≡ Some a → IsTable a table.old → table.old.len < 16384 → OnOk result (Changed a space.old.free.items space.old.fresh table.old (D.pages space.new.cache.disk) table.new (insert (content a table.old.root) key value.now)) }
     ensures lawful { IfErr result IsNoPage }
     ensures untold { D.pages space.old.cache.disk ≡ None → D.pages space.new.cache.disk ≡ None }
@@ -200,6 +206,7 @@ pub(crate) fn add_pair<D: Disk>(
     ensures steady { OnOk result (D.faults space.new.cache.disk ≡ D.faults space.old.cache.disk) }
     ensures never_falls { D.faults space.old.cache.disk ≤ D.faults space.new.cache.disk }
 {
+    let len = len_of(value);
     let Placed { held, overflow } = place(space, value)?;
     let page = space.take()?;
     let next = first_page(table.chain(key));
@@ -208,6 +215,7 @@ pub(crate) fn add_pair<D: Disk>(
     let slot = Slot {
         key,
         page,
+        len,
         overflow,
     };
     table.link(slot)?;

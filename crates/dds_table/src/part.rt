@@ -7,6 +7,7 @@ ghost use Rattle.dds_table.specs.Content.{content};
 ghost use Rattle.dds_base.specs.Place.{bucket as bucket_no};
 ghost use Rattle.dds_table.specs.Index.{IsTable, IsIndex};
 ghost use Rattle.dds_table.specs.Answers.{IsNoPage};
+ghost use Rattle.dds_table.specs.Lawful.{IsTableRefused};
 ghost use Rattle.dds_table.specs.Part.{earlier, in_chain, has_key, IsNext, IsPart};
 ghost use Rattle.dds_base.specs.Place.{is_after};
 ghost use Rattle.dds_base.specs.Place.{is_before};
@@ -77,6 +78,7 @@ pub(crate) fn read_part<D: Disk>(
     ensures told { (a : Pages) → D.pages space.old.cache.disk ≡ Some a → IsTable a table.now → IfOk result (λ part. IsPart (content a table.now.root) start most part.pairs part.last) }
     ensures most { IfOk result (λ part. length part.pairs ≤ most) }
     ensures lawful { (a : Pages) → D.pages space.old.cache.disk ≡ Some a → IsTable a table.now → IfErr result IsNoPage }
+    ensures refused { IfErr result (IsTableRefused space.new.cache.kept table.now.buckets.items) }
     ensures free { space.new.free.items ≡ space.old.free.items }
     ensures fresh { space.new.fresh ≡ space.old.fresh }
     ensures rose { IsErrOf result TableFault.Disk → Rose (D.faults space.old.cache.disk) (D.faults space.new.cache.disk) }

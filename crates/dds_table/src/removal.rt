@@ -1,15 +1,18 @@
 //! Taking a pair out of a table.
 
-ghost use Rattle.std.specs.Prelude.{◌≡◌, ℕ, ◌+◌, ◌-◌, ◌<◌, ◌≤◌, ◌^◌, List, ◌∷◌, [], Some, None, IsTrue, length, get_or, IfOk, IfErr, OnOk, OnErr, IsErrOf, vec_capacity};
+ghost use Rattle.std.specs.Prelude.{◌≡◌, ◌==◌, ◌&&◌, not, ℕ, ◌+◌, ◌-◌, ◌<◌, ◌≤◌, ◌^◌, List, ◌∷◌, [], Some, None, IsTrue, length, get_or, IfOk, IfErr, OnOk, OnErr, IsErrOf, vec_capacity};
 ghost use Rattle.std.specs.FinMap.{insert, remove as without};
 ghost use Rattle.dds_base.specs.Outside.{Rose};
 ghost use Rattle.dds_disk.specs.Pages.{Pages, page_at};
 ghost use Rattle.dds_pages.specs.Bucket.{Bucket, bucket_bytes};
 ghost use Rattle.dds_pages.specs.declared.bucket.PagePair.{PagePair};
-ghost use Rattle.dds_table.specs.Content.{bucket_in, content};
+ghost use Rattle.dds_table.specs.Content.{content};
+ghost use Rattle.dds_pages.specs.Said.{bucket_in};
 ghost use Rattle.dds_base.specs.Place.{bucket as bucket_no};
 ghost use Rattle.dds_table.specs.Index.{IsChain, IsTable, IsIndex, Misses, place_of, chain_uses, slot_uses, table_uses, tables_use, vacant};
 ghost use Rattle.dds_table.specs.Answers.{IsNoPage, Bridged, Changed};
+ghost use Rattle.dds_table.specs.Part.{has_key};
+ghost use Rattle.dds_table.specs.Lawful.{IsSilent, IsChainRefused, IsTableRefused};
 
 use crate::fault::TableFault;
 use crate::pairs::{read_bucket, write_root};
@@ -23,6 +26,7 @@ use dds_pages::bucket::BucketPage;
 fn relink<D: Disk>(space: &mut Space<D>, page: u64, next: u64) -> Result<(), TableFault>
     ensures told { (a : Pages) (pairs : List PagePair) (was : ℕ) → D.pages space.old.cache.disk ≡ Some a → bucket_in (page_at a page) ≡ Some (record { pairs = pairs; next = was }) → OnOk result (D.pages space.new.cache.disk ≡ Some (insert a page (bucket_bytes (record { pairs = pairs; next = next })))) }
     ensures lawful { (a : Pages) (bucket : Bucket) → D.pages space.old.cache.disk ≡ Some a → bucket_in (page_at a page) ≡ Some bucket → IfErr result IsNoPage }
+    ensures refused { IfErr result (IsSilent bucket_in space.new.cache.kept page) }
     ensures free { space.new.free.items ≡ space.old.free.items }
     ensures fresh { space.new.fresh ≡ space.old.fresh }
     ensures untold { D.pages space.old.cache.disk ≡ None → D.pages space.new.cache.disk ≡ None }
@@ -46,6 +50,7 @@ fn bridge<D: Disk>(space: &mut Space<D>, slots: &[Slot], place: usize) -> Result
     requires within { place < length slots.now }
     ensures told { (a : Pages) → D.pages space.old.cache.disk ≡ Some a → IsChain a slots.now → ((n : ℕ) → chain_uses n slots.now ≤ 1) → OnOk result (Bridged a slots.now place (D.pages space.new.cache.disk)) }
     ensures lawful { (a : Pages) → D.pages space.old.cache.disk ≡ Some a → IsChain a slots.now → IfErr result IsNoPage }
+    ensures refused { IfErr result (IsChainRefused space.new.cache.kept slots.now) }
     ensures free { space.new.free.items ≡ space.old.free.items }
     ensures fresh { space.new.fresh ≡ space.old.fresh }
     ensures untold { D.pages space.old.cache.disk ≡ None → D.pages space.new.cache.disk ≡ None }
@@ -92,9 +97,11 @@ pub(crate) fn remove_pair<D: Disk>(
     ensures root { OnOk result (table.new.root ≡ table.old.root) }
     ensures number { OnOk result ((n : ℕ) → vacant n space.new.free.items space.new.fresh + table_uses n table.new ≡ vacant n space.old.free.items space.old.fresh + table_uses n table.old) }
     ensures told { (a : Pages) → D.pages space.old.cache.disk ≡ Some a → IsTable a table.old → OnOk result (Changed a space.old.free.items space.old.fresh table.old (D.pages space.new.cache.disk) table.new (without (content a table.old.root) key)) }
+    ensures keys { OnOk result ((q : ℕ) → has_key table.new q ≡ (not (key == q) && has_key table.old q)) }
     ensures gone { OnOk result (Misses key (get_or table.new.buckets.items (bucket_no key) [])) }
     ensures less { (a : Pages) → D.pages space.old.cache.disk ≡ Some a → IsTable a table.old → OnOk result (table.new.len < table.old.len) }
     ensures lawful { (a : Pages) → D.pages space.old.cache.disk ≡ Some a → IsTable a table.old → IfErr result IsNoPage }
+    ensures refused { IfErr result (IsTableRefused space.new.cache.kept table.new.buckets.items) }
     ensures untold { D.pages space.old.cache.disk ≡ None → D.pages space.new.cache.disk ≡ None }
     ensures rose { IsErrOf result TableFault.Disk → Rose (D.faults space.old.cache.disk) (D.faults space.new.cache.disk) }
     ensures steady { OnOk result (D.faults space.new.cache.disk ≡ D.faults space.old.cache.disk) }

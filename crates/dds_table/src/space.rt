@@ -4,6 +4,7 @@ ghost use Rattle.std.specs.Prelude.{◌≡◌, ℕ, ◌+◌, ◌<◌, ◌≤◌,
 ghost use Rattle.dds_base.specs.Outside.{Rose};
 ghost use Rattle.std.specs.FinMap.{insert};
 ghost use Rattle.dds_disk.specs.Pages.{Pages, page_at};
+ghost use Rattle.dds_cache.specs.Kept.{held};
 ghost use Rattle.dds_table.specs.Index.{same, vacant};
 ghost use Rattle.dds_table.specs.Answers.{IsNoPage};
 
@@ -70,6 +71,7 @@ impl<D: Disk> Space<D> {
     pub(crate) fn read(&mut self, page: u64) -> Result<[u8; 4_096], TableFault>
         ensures same { D.pages self.new.cache.disk ≡ D.pages self.old.cache.disk }
         ensures told { (a : Pages) → D.pages self.old.cache.disk ≡ Some a → IfOk result (λ bytes. bytes ≡ page_at a page) }
+        ensures given { IfOk result (λ bytes. held self.new.cache.kept page ≡ Some bytes) }
         ensures lawful { IfErr result IsNoPage }
         ensures free { self.new.free.items ≡ self.old.free.items }
         ensures fresh { self.new.fresh ≡ self.old.fresh }

@@ -6,8 +6,9 @@ ghost use Rattle.dds_base.specs.Outside.{Rose};
 ghost use Rattle.dds_disk.specs.Pages.{Pages};
 ghost use Rattle.dds_groups.specs.Names.{low_half, high_half};
 ghost use Rattle.dds_table.specs.Answers.{IsNoPage};
+ghost use Rattle.dds_table.specs.Lawful.{IsRefused};
 ghost use Rattle.dds_table.specs.Store.{names, has_table, maps_of, map_named, without_table, Holds};
-ghost use Rattle.dds_table.specs.Split.{covered, halves_of, put_covered, moved, IsTurn, HasRoom};
+ghost use Rattle.dds_table.specs.Split.{covered, halves_of, put_covered, moved, IsTurn, HasRoom, IsParted};
 
 use crate::fault::TableFault;
 use crate::store::Store;
@@ -18,7 +19,7 @@ use dds_groups::halves::{high_half, low_half};
 
 impl<D: Disk> Store<D> {
     /// Splits a table: in its place come the tables of its name's two halves, each with the pairs
-    /// whose keys it covers.
+    /// whose keys it covers. Each pair of the table comes to just one of them.
     pub fn split(&mut self, name: LeafName) -> Result<(), TableFault>
         requires live { self.old.failed ≡ false }
         requires there { IsTrue (has_table self.old.tables name) }
@@ -26,15 +27,18 @@ impl<D: Disk> Store<D> {
         requires low { has_table self.old.tables (low_half name) ≡ false }
         requires high { has_table self.old.tables (high_half name) ≡ false }
         ensures told { (a : Pages) → D.pages self.old.cache.disk ≡ Some a → OnOk result (Holds (D.pages self.new.cache.disk) self.new.tables (maps_of a (without_table self.old.tables name) ++ halves_of name (covered (map_named (maps_of a self.old.tables) name) (low_half name)) (covered (map_named (maps_of a self.old.tables) name) (high_half name)))) }
+        ensures parted { (a : Pages) → D.pages self.old.cache.disk ≡ Some a → IsParted (map_named (maps_of a self.old.tables) name) (covered (map_named (maps_of a self.old.tables) name) (low_half name)) (covered (map_named (maps_of a self.old.tables) name) (high_half name)) }
         ensures names { OnOk result (names self.new.tables ≡ names (without_table self.old.tables name) ++ low_half name ∷ high_half name ∷ []) }
         ensures ok { OnOk result (self.new.failed ≡ false) }
         ensures err { OnErr result (self.new.failed ≡ true) }
         ensures lawful { (a : Pages) → D.pages self.old.cache.disk ≡ Some a → IfErr result IsNoPage }
+        ensures refused { IfErr result (IsRefused self.new.cache.kept self.new.slots) }
         ensures untold { D.pages self.old.cache.disk ≡ None → D.pages self.new.cache.disk ≡ None }
         ensures rose { IsErrOf result TableFault.Disk → Rose (D.faults self.old.cache.disk) (D.faults self.new.cache.disk) }
         ensures steady { OnOk result (D.faults self.new.cache.disk ≡ D.faults self.old.cache.disk) }
         ensures never_falls { D.faults self.old.cache.disk ≤ D.faults self.new.cache.disk }
     {
+        self.keys_are_covered(name);
         self.add(low_half(name))?;
         self.add(high_half(name))?;
         let most = self.len(name);
@@ -58,6 +62,7 @@ impl<D: Disk> Store<D> {
         ensures ok { OnOk result (self.new.failed ≡ false) }
         ensures err { OnErr result (self.new.failed ≡ true) }
         ensures lawful { (a : Pages) → D.pages self.old.cache.disk ≡ Some a → IfErr result IsNoPage }
+        ensures refused { IfErr result (IsRefused self.new.cache.kept self.new.slots) }
         ensures untold { D.pages self.old.cache.disk ≡ None → D.pages self.new.cache.disk ≡ None }
         ensures rose { IsErrOf result TableFault.Disk → Rose (D.faults self.old.cache.disk) (D.faults self.new.cache.disk) }
         ensures steady { OnOk result (D.faults self.new.cache.disk ≡ D.faults self.old.cache.disk) }
@@ -85,6 +90,7 @@ impl<D: Disk> Store<D> {
         ensures ok { OnOk result (self.new.failed ≡ false) }
         ensures err { OnErr result (self.new.failed ≡ true) }
         ensures lawful { (a : Pages) → D.pages self.old.cache.disk ≡ Some a → IfErr result IsNoPage }
+        ensures refused { IfErr result (IsRefused self.new.cache.kept self.new.slots) }
         ensures untold { D.pages self.old.cache.disk ≡ None → D.pages self.new.cache.disk ≡ None }
         ensures rose { IsErrOf result TableFault.Disk → Rose (D.faults self.old.cache.disk) (D.faults self.new.cache.disk) }
         ensures steady { OnOk result (D.faults self.new.cache.disk ≡ D.faults self.old.cache.disk) }
@@ -105,6 +111,7 @@ impl<D: Disk> Store<D> {
         ensures ok { OnOk result (self.new.failed ≡ false) }
         ensures err { OnErr result (self.new.failed ≡ true) }
         ensures lawful { (a : Pages) → D.pages self.old.cache.disk ≡ Some a → IfErr result IsNoPage }
+        ensures refused { IfErr result (IsRefused self.new.cache.kept self.new.slots) }
         ensures untold { D.pages self.old.cache.disk ≡ None → D.pages self.new.cache.disk ≡ None }
         ensures rose { IsErrOf result TableFault.Disk → Rose (D.faults self.old.cache.disk) (D.faults self.new.cache.disk) }
         ensures steady { OnOk result (D.faults self.new.cache.disk ≡ D.faults self.old.cache.disk) }

@@ -1,18 +1,21 @@
 //! A store of tables by their names.
 
-ghost use Rattle.std.specs.Prelude.{◌≡◌, ℕ, ◌+◌, ◌<◌, ◌≤◌, ◌++◌, ◌∷◌, [], Some, None, true, false, is_some, IsTrue, IfOk, IfErr, OnOk, OnErr, IsErrOf, IfSome, length, vec_capacity};
+ghost use Rattle.std.specs.Prelude.{◌≡◌, ℕ, ◌+◌, ◌<◌, ◌≤◌, ◌++◌, ◌∷◌, [], Some, None, true, false, is_some, IsTrue, IfOk, IfErr, OnOk, OnErr, IsErrOf, IfSome, length, vec_capacity, ◌==◌, ◌||◌, ◌&&◌, not};
 ghost use Rattle.std.specs.FinMap.{empty, get, insert, remove as without, contains_key, len as size};
 ghost use Rattle.dds_base.specs.Name.{Name, covers, overlaps, same_name};
 ghost use Rattle.dds_base.specs.Outside.{Rose};
 ghost use Rattle.dds_disk.specs.Pages.{Pages};
 ghost use Rattle.dds_table.specs.Answers.{IsNoPage};
 ghost use Rattle.dds_table.specs.Part.{IsPart};
-ghost use Rattle.dds_table.specs.Store.{StoreState, named, names, place_named, has_table, maps_of, map_named, with_map, without_table, Holds};
+ghost use Rattle.dds_table.specs.Split.{KeysAreOf};
+ghost use Rattle.dds_table.specs.Store.{StoreState, named, names, place_named, has_table, maps_of, map_named, with_map, without_table, without_slots, Holds};
+ghost use Rattle.dds_table.specs.Lawful.{IsRefused, knows};
 
 use crate::change::{bind, unbind};
 use crate::fault::TableFault;
 use crate::pairs::{create, get};
 use crate::part::{Part, read_part};
+use crate::places::{find, forget, note, place_in};
 use crate::removal::reclaim;
 use crate::space::Space;
 use crate::table::Table;
@@ -21,60 +24,31 @@ use dds_base::name::LeafName;
 use dds_base::value::Value;
 use dds_disk::disk::Disk;
 use std::alloc::Global;
+use std::collections::BTreeMap;
 use std::marker::Model;
-
-/// Whether both names are the same.
-fn is_same(a: &LeafName, b: &LeafName) -> bool
-    ensures { result ≡ same_name a.now b.now }
-{
-    a.bits() == b.bits() && a.depth() == b.depth()
-}
-
-/// The place of the table of a name.
-fn find(tables: &[Table], name: &LeafName) -> Option<usize>
-    ensures value { result ≡ place_named (named tables.now) name.now }
-    ensures within { IfSome result (λ place. place < length tables.now) }
-{
-    for (place, table) in tables.iter().enumerate() {
-        if is_same(&table.name, name) {
-            return Some(place);
-        }
-    }
-    None
-}
-
-/// The place of the table of a name that is there.
-fn place_in(tables: &[Table], name: &LeafName) -> usize
-    requires { IsTrue (has_table (named tables.now) name.now) }
-    ensures value { place_named (named tables.now) name.now ≡ Some result }
-    ensures within { result < length tables.now }
-{
-    match find(tables, name) {
-        Some(place) => place,
-        None => 0,
-    }
-}
 
 /// Tables on one disk, by their names. A store of which a call failed is used no more.
 #[derive(Drop)]
 pub struct Store<D: Disk> {
     space: Space<D>,
     tables: Vec<Table>,
+    places: BTreeMap<LeafName, usize>,
     dropped: Vec<Table>,
     failed: bool,
 }
 
 impl<D: Disk> Model for Store<D> {
     ghost use Rattle.std.specs.Prelude.{vec_capacity};
-    ghost use Rattle.dds_table.specs.Store.{StoreState, store_code, named, IsStore, Unless};
+    ghost use Rattle.dds_table.specs.Store.{StoreState, store_code, named, slots_of, IsStore, Unless};
+    ghost use Rattle.dds_table.specs.Places.{IsPlaced};
 
     ghost Value = { StoreState D };
 
     ghost coded = { store_code D.code };
 
-    ghost view = { λ a. record { cache = a.space.cache; tables = named a.tables.items; failed = a.failed } };
+    ghost view = { λ a. record { cache = a.space.cache; tables = named a.tables.items; slots = slots_of a.tables.items; failed = a.failed } };
 
-    ghost invariant = { λ a. Unless a.failed (IsStore (D.pages a.space.cache.disk) a.space.free.items a.space.fresh a.tables.items a.dropped.items (vec_capacity a.dropped)) };
+    ghost invariant = { λ a. Unless a.failed (IsStore (D.pages a.space.cache.disk) a.space.free.items a.space.fresh a.tables.items a.dropped.items (vec_capacity a.dropped)) × Unless a.failed (IsPlaced a.places (named a.tables.items)) };
 }
 
 impl<D: Disk> Store<D> {
@@ -82,11 +56,13 @@ impl<D: Disk> Store<D> {
     pub fn new(alloc: Global, disk: D) -> Result<Store<D>, Memory>
         ensures disk { IfOk result (λ store. store.cache.disk ≡ disk) }
         ensures tables { IfOk result (λ store. store.tables ≡ []) }
+        ensures slots { IfOk result (λ store. store.slots ≡ []) }
         ensures live { IfOk result (λ store. store.failed ≡ false) }
     {
         Ok(Store {
             space: Space::new(alloc, disk)?,
             tables: Vec::new(alloc),
+            places: BTreeMap::new(alloc),
             dropped: Vec::new(alloc),
             failed: false,
         })
@@ -99,10 +75,15 @@ impl<D: Disk> Store<D> {
         let Store {
             space,
             tables: _,
+            places: _,
             dropped: _,
             failed: _,
         } = self;
         space.into_disk()
+    }
+
+    pub(crate) fn alloc(&self) -> Global {
+        self.space.alloc
     }
 
     /// Adds an empty table.
@@ -122,6 +103,7 @@ impl<D: Disk> Store<D> {
         reclaim(&mut self.space, &mut self.dropped)?;
         let table = create(&mut self.space, name)?;
         reserve(&mut self.dropped, self.tables.len() + 1)?;
+        note(&mut self.places, self.tables.as_slice(), name)?;
         push(&mut self.tables, table)?;
         self.failed = false;
         Ok(())
@@ -131,7 +113,10 @@ impl<D: Disk> Store<D> {
     pub fn has(&self, name: LeafName) -> bool
         ensures { result ≡ has_table self.now.tables name }
     {
-        find(self.tables.as_slice(), &name).is_some()
+        if self.failed {
+            return find(self.tables.as_slice(), &name).is_some();
+        }
+        self.places.contains_key(&name)
     }
 
     /// How many pairs a table has. Takes no memory.
@@ -141,9 +126,17 @@ impl<D: Disk> Store<D> {
         ensures told { (a : Pages) → D.pages self.now.cache.disk ≡ Some a → result ≡ size (map_named (maps_of a self.now.tables) name) }
         ensures most { result ≤ 16384 }
     {
-        let place = place_in(self.tables.as_slice(), &name);
+        let place = place_in(&self.places, self.tables.as_slice(), &name);
         let table = &self.tables[place];
         table.len as usize
+    }
+
+    /// The law that a table has only keys that its name covers. Does nothing.
+    pub fn keys_are_covered(&self, name: LeafName)
+        requires live { self.now.failed ≡ false }
+        ensures { (a : Pages) → D.pages self.now.cache.disk ≡ Some a → KeysAreOf name (map_named (maps_of a self.now.tables) name) }
+    {
+        let _tables = self.tables.len();
     }
 
     /// The value of a key.
@@ -153,15 +146,18 @@ impl<D: Disk> Store<D> {
         ensures told { (a : Pages) → D.pages self.old.cache.disk ≡ Some a → IfOk result (λ value. value ≡ get (map_named (maps_of a self.old.tables) name) key) }
         ensures pages { D.pages self.new.cache.disk ≡ D.pages self.old.cache.disk }
         ensures tables { self.new.tables ≡ self.old.tables }
+        ensures slots { self.new.slots ≡ self.old.slots }
         ensures ok { OnOk result (self.new.failed ≡ false) }
         ensures err { OnErr result (self.new.failed ≡ true) }
         ensures lawful { (a : Pages) → D.pages self.old.cache.disk ≡ Some a → IfErr result IsNoPage }
+        ensures refused { IfErr result (IsRefused self.new.cache.kept self.new.slots) }
+        ensures known { IfOk result (λ value. is_some value ≡ knows self.old.tables self.old.slots name key) }
         ensures rose { IsErrOf result TableFault.Disk → Rose (D.faults self.old.cache.disk) (D.faults self.new.cache.disk) }
         ensures steady { OnOk result (D.faults self.new.cache.disk ≡ D.faults self.old.cache.disk) }
         ensures never_falls { D.faults self.old.cache.disk ≤ D.faults self.new.cache.disk }
     {
         self.failed = true;
-        let place = place_in(self.tables.as_slice(), &name);
+        let place = place_in(&self.places, self.tables.as_slice(), &name);
         let value = match get(&mut self.space, &self.tables[place], key) {
             Ok(value) => value,
             Err(fault) => return Err(fault),
@@ -184,15 +180,17 @@ impl<D: Disk> Store<D> {
         ensures most { IfOk result (λ part. length part.pairs ≤ most) }
         ensures pages { D.pages self.new.cache.disk ≡ D.pages self.old.cache.disk }
         ensures tables { self.new.tables ≡ self.old.tables }
+        ensures slots { self.new.slots ≡ self.old.slots }
         ensures ok { OnOk result (self.new.failed ≡ false) }
         ensures err { OnErr result (self.new.failed ≡ true) }
         ensures lawful { (a : Pages) → D.pages self.old.cache.disk ≡ Some a → IfErr result IsNoPage }
+        ensures refused { IfErr result (IsRefused self.new.cache.kept self.new.slots) }
         ensures rose { IsErrOf result TableFault.Disk → Rose (D.faults self.old.cache.disk) (D.faults self.new.cache.disk) }
         ensures steady { OnOk result (D.faults self.new.cache.disk ≡ D.faults self.old.cache.disk) }
         ensures never_falls { D.faults self.old.cache.disk ≤ D.faults self.new.cache.disk }
     {
         self.failed = true;
-        let place = place_in(self.tables.as_slice(), &name);
+        let place = place_in(&self.places, self.tables.as_slice(), &name);
         let part = match read_part(&mut self.space, &self.tables[place], after, most) {
             Ok(part) => part,
             Err(fault) => return Err(fault),
@@ -206,10 +204,11 @@ impl<D: Disk> Store<D> {
     pub fn drop_table(&mut self, name: LeafName)
         requires live { self.old.failed ≡ false }
         requires there { IsTrue (has_table self.old.tables name) }
-        ensures { self.new ≡ record self.old { tables = without_table self.old.tables name } }
+        ensures { self.new ≡ record self.old { tables = without_table self.old.tables name; slots = without_slots self.old.tables self.old.slots name } }
     {
-        let place = place_in(self.tables.as_slice(), &name);
+        let place = place_in(&self.places, self.tables.as_slice(), &name);
         let table = self.tables.remove(place);
+        forget(&mut self.places, self.tables.as_slice(), &name, place);
         drop_into(&mut self.dropped, table);
     }
 
@@ -225,6 +224,9 @@ impl<D: Disk> Store<D> {
         ensures ok { OnOk result (self.new.failed ≡ false) }
         ensures err { OnErr result (self.new.failed ≡ true) }
         ensures lawful { (a : Pages) → D.pages self.old.cache.disk ≡ Some a → IfErr result IsNoPage }
+        ensures refused { IfErr result (IsRefused self.new.cache.kept self.new.slots) }
+        ensures known { IfOk result (λ was. was ≡ knows self.old.tables self.old.slots name key) }
+        ensures keys { OnOk result ((q : ℕ) → knows self.new.tables self.new.slots name q ≡ (key == q || knows self.old.tables self.old.slots name q)) }
         ensures untold { D.pages self.old.cache.disk ≡ None → D.pages self.new.cache.disk ≡ None }
         ensures rose { IsErrOf result TableFault.Disk → Rose (D.faults self.old.cache.disk) (D.faults self.new.cache.disk) }
         ensures steady { OnOk result (D.faults self.new.cache.disk ≡ D.faults self.old.cache.disk) }
@@ -232,7 +234,7 @@ impl<D: Disk> Store<D> {
     {
         self.failed = true;
         reclaim(&mut self.space, &mut self.dropped)?;
-        let place = place_in(self.tables.as_slice(), &name);
+        let place = place_in(&self.places, self.tables.as_slice(), &name);
         let was = match bind(&mut self.space, &mut self.tables[place], key, value) {
             Ok(was) => was,
             Err(fault) => return Err(fault),
@@ -251,13 +253,16 @@ impl<D: Disk> Store<D> {
         ensures ok { OnOk result (self.new.failed ≡ false) }
         ensures err { OnErr result (self.new.failed ≡ true) }
         ensures lawful { (a : Pages) → D.pages self.old.cache.disk ≡ Some a → IfErr result IsNoPage }
+        ensures refused { IfErr result (IsRefused self.new.cache.kept self.new.slots) }
+        ensures known { IfOk result (λ was. was ≡ knows self.old.tables self.old.slots name key) }
+        ensures keys { OnOk result ((q : ℕ) → knows self.new.tables self.new.slots name q ≡ (not (key == q) && knows self.old.tables self.old.slots name q)) }
         ensures untold { D.pages self.old.cache.disk ≡ None → D.pages self.new.cache.disk ≡ None }
         ensures rose { IsErrOf result TableFault.Disk → Rose (D.faults self.old.cache.disk) (D.faults self.new.cache.disk) }
         ensures steady { OnOk result (D.faults self.new.cache.disk ≡ D.faults self.old.cache.disk) }
         ensures never_falls { D.faults self.old.cache.disk ≤ D.faults self.new.cache.disk }
     {
         self.failed = true;
-        let place = place_in(self.tables.as_slice(), &name);
+        let place = place_in(&self.places, self.tables.as_slice(), &name);
         let was = match unbind(&mut self.space, &mut self.tables[place], key) {
             Ok(was) => was,
             Err(fault) => return Err(fault),

@@ -15,11 +15,12 @@ use dds_pages::fault::NO_PAGE;
 use dds_pages::root::{BUCKETS, PAIRS, RootPage};
 use std::alloc::Global;
 
-/// Where a pair stands: its bucket page, and the overflow pages of a long value, in their order.
+/// Where a pair stands: its bucket page, how long its value is, and the overflow pages of a long value, in their order.
 #[derive(Drop)]
 pub(crate) struct Slot {
     pub(crate) key: u64,
     pub(crate) page: u64,
+    pub(crate) len: u16,
     pub(crate) overflow: Items<u64>,
 }
 

@@ -16,7 +16,7 @@ use std::alloc::Global;
 use std::test::Fail;
 
 /// A value of this length.
-fn value_of(alloc: Global, len: usize, byte: u8) -> Result<Value, Memory> {
+pub(crate) fn value_of(alloc: Global, len: usize, byte: u8) -> Result<Value, Memory> {
     let mut bytes = Vec::new(alloc);
     for n in 0..len {
         bytes.push(byte.wrapping_add((n % 251) as u8))?;
@@ -28,7 +28,7 @@ fn value_of(alloc: Global, len: usize, byte: u8) -> Result<Value, Memory> {
 }
 
 /// The name of the table of all keys.
-fn whole() -> Result<LeafName, Fail> {
+pub(crate) fn whole() -> Result<LeafName, Fail> {
     match LeafName::of(0, 0) {
         Some(name) => Ok(name),
         None => Err(Fail::new("no name")),
@@ -36,7 +36,7 @@ fn whole() -> Result<LeafName, Fail> {
 }
 
 /// Puts where the store's conditions hold, which it tests; `Err` says which fault came.
-fn try_put<D: Disk>(
+pub(crate) fn try_put<D: Disk>(
     store: &mut Store<D>,
     name: LeafName,
     key: u64,
@@ -83,7 +83,11 @@ fn shown(value: &Value) -> (usize, u8) {
 }
 
 /// Removes where the store's conditions hold.
-fn try_remove<D: Disk>(store: &mut Store<D>, name: LeafName, key: u64) -> Result<bool, TableFault>
+pub(crate) fn try_remove<D: Disk>(
+    store: &mut Store<D>,
+    name: LeafName,
+    key: u64,
+) -> Result<bool, TableFault>
     requires { store.old.failed ≡ false }
     ensures { OnOk result (store.new.failed ≡ false) }
 {
@@ -214,7 +218,11 @@ fn a_call_of_the_disk_fails(rt: HostRuntime) -> Result<(), Fail> {
 }
 
 /// Puts many keys and reads them again; says how many were there, or which fault came.
-fn many<D: Disk>(alloc: Global, store: &mut Store<D>, name: LeafName) -> Result<u32, TableFault>
+pub(crate) fn many<D: Disk>(
+    alloc: Global,
+    store: &mut Store<D>,
+    name: LeafName,
+) -> Result<u32, TableFault>
     requires { store.old.failed ≡ false }
 {
     store.add(name)?;
@@ -261,7 +269,11 @@ fn try_split<D: Disk>(store: &mut Store<D>, name: LeafName) -> Result<(), TableF
 }
 
 /// Splits a table of the keys 1 to 9; says how many answers were as they must be.
-fn halves<D: Disk>(alloc: Global, store: &mut Store<D>, name: LeafName) -> Result<u32, TableFault>
+pub(crate) fn halves<D: Disk>(
+    alloc: Global,
+    store: &mut Store<D>,
+    name: LeafName,
+) -> Result<u32, TableFault>
     requires live { store.old.failed ≡ false }
     requires depth { name.depth < 16 }
 {

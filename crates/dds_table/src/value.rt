@@ -1,20 +1,22 @@
 //! Values of tables: short ones stand in their bucket page, long ones in overflow pages.
 
-ghost use Rattle.std.specs.Prelude.{◌≡◌, ℕ, ◌+◌, ◌-◌, ◌*◌, ◌<◌, ◌≤◌, ◌^◌, ◌++◌, List, [], length, take, drop, IfOk, IfErr, OnOk, OnErr, IsErrOf, None, Some};
+ghost use Rattle.std.specs.Prelude.{◌≡◌, true, ℕ, ◌+◌, ◌-◌, ◌*◌, ◌<◌, ◌≤◌, ◌^◌, ◌++◌, List, [], length, take, drop, IfOk, IfErr, OnOk, OnErr, IsErrOf, None, Some};
 ghost use Rattle.std.specs.FinMap.{insert};
 ghost use Rattle.dds_base.specs.Outside.{Rose};
 ghost use Rattle.dds_disk.specs.Pages.{Pages, page_at};
 ghost use Rattle.dds_pages.specs.Bucket.{IsHeld};
 ghost use Rattle.dds_pages.specs.Overflow.{Overflow, overflow_bytes};
-ghost use Rattle.dds_table.specs.Content.{overflow_in};
+ghost use Rattle.dds_pages.specs.Said.{overflow_in};
 ghost use Rattle.dds_table.specs.Index.{same, times, vacant, IsSpread, IsPlaced, first_number};
+ghost use Rattle.dds_table.specs.Lawful.{IsGivenAs, IsPieceRefused, IsSlotRefused, is_place_of};
 ghost use Rattle.dds_table.specs.Answers.{IsNoPage, IsReadAs, KeepsUsed, WroteChain, WroteValue};
 
 use crate::fault::TableFault;
 use crate::space::Space;
+use crate::table::Slot;
 use dds_base::items::Items;
 use dds_base::memory::Memory;
-use dds_base::value::Value;
+use dds_base::value::{VALUE_BYTES, Value};
 use dds_disk::disk::Disk;
 use dds_pages::bucket::Held;
 use dds_pages::fault::{NO_PAGE, PageFault};
@@ -45,6 +47,7 @@ fn decode(alloc: Global, page: u64, bytes: &[u8; 4_096]) -> Result<OverflowPage,
 fn read_overflow<D: Disk>(space: &mut Space<D>, page: u64) -> Result<OverflowPage, TableFault>
     ensures same { D.pages space.new.cache.disk ≡ D.pages space.old.cache.disk }
     ensures told { (a : Pages) → D.pages space.old.cache.disk ≡ Some a → IsReadAs (overflow_in (page_at a page)) page result }
+    ensures given { IsGivenAs overflow_in space.new.cache.kept page result }
     ensures free { space.new.free.items ≡ space.old.free.items }
     ensures fresh { space.new.fresh ≡ space.old.fresh }
     ensures rose { IsErrOf result TableFault.Disk → Rose (D.faults space.old.cache.disk) (D.faults space.new.cache.disk) }
@@ -170,7 +173,9 @@ fn read_chain<D: Disk>(
 ) -> Result<Vec<u8>, TableFault>
     ensures same { D.pages space.new.cache.disk ≡ D.pages space.old.cache.disk }
     ensures told { (a : Pages) (value : List ℕ) → D.pages space.old.cache.disk ≡ Some a → IsSpread a overflow.now value → len ≡ length value → IfOk result (λ bytes. bytes.items ≡ value) }
+    ensures few { IfOk result (λ bytes. length bytes.items ≤ len) }
     ensures lawful { (a : Pages) (value : List ℕ) → D.pages space.old.cache.disk ≡ Some a → IsSpread a overflow.now value → len ≡ length value → IfErr result IsNoPage }
+    ensures refused { IfErr result (IsPieceRefused space.new.cache.kept overflow.now len) }
     ensures free { space.new.free.items ≡ space.old.free.items }
     ensures fresh { space.new.fresh ≡ space.old.fresh }
     ensures rose { IsErrOf result TableFault.Disk → Rose (D.faults space.old.cache.disk) (D.faults space.new.cache.disk) }
@@ -192,30 +197,48 @@ fn read_chain<D: Disk>(
     Ok(bytes)
 }
 
-/// Makes a value of the bytes of an overflow chain from this page.
-fn long_value(bytes: Vec<u8>, len: usize, first: u64) -> Result<Value, TableFault>
-    ensures told { length bytes.items ≡ len → len ≤ 60000 → IfOk result (λ value. value ≡ bytes.items) }
-    ensures lawful { length bytes.items ≡ len → len ≤ 60000 → IfErr result IsNoPage }
-    ensures disk { ¬ (IsErrOf result TableFault.Disk) }
+/// The value of the bytes of an overflow chain.
+fn long_value(bytes: Vec<u8>) -> Value
+    requires { length bytes.items ≤ 60000 }
+    ensures { result ≡ bytes.items }
 {
-    if bytes.len() != len {
-        return Err(TableFault::Page { page: first });
-    }
     match Value::from_vec(bytes) {
-        Some(value) => Ok(value),
-        None => Err(TableFault::Page { page: first }),
+        Some(value) => value,
+        None => unreachable!(),
     }
 }
 
-/// Reads the value that stands in this place.
+/// How long a value is.
+pub(crate) fn len_of(value: &Value) -> u16
+    ensures { result ≡ length value.now }
+{
+    value.bytes().len() as u16
+}
+
+/// Whether a value stands there that is as long as the slot's, and that the slot's overflow pages have room for.
+pub(crate) fn is_place_of(held: &Held, slot: &Slot) -> bool
+    ensures { result ≡ is_place_of slot.now held.now }
+{
+    match held {
+        Held::Here { value } => value.bytes().len() == usize::from(slot.len),
+        Held::Chain { len, first: _ } => {
+            let pages = (usize::from(*len) + OVERFLOW_BYTES - 1) / OVERFLOW_BYTES;
+            *len == slot.len && usize::from(*len) <= VALUE_BYTES && pages <= slot.overflow.len()
+        }
+    }
+}
+
+/// Reads the slot's value, which stands in this place.
 pub(crate) fn fetch<D: Disk>(
     space: &mut Space<D>,
     held: &Held,
-    overflow: &[u64],
+    slot: &Slot,
 ) -> Result<Value, TableFault>
+    requires { is_place_of slot.now held.now ≡ true }
     ensures same { D.pages space.new.cache.disk ≡ D.pages space.old.cache.disk }
-    ensures told { (a : Pages) (bytes : List ℕ) → D.pages space.old.cache.disk ≡ Some a → IsHeld held.now → IsPlaced a held.now overflow.now bytes → IfOk result (λ value. value ≡ bytes) }
-    ensures lawful { (a : Pages) (bytes : List ℕ) → D.pages space.old.cache.disk ≡ Some a → IsHeld held.now → IsPlaced a held.now overflow.now bytes → IfErr result IsNoPage }
+    ensures told { (a : Pages) (bytes : List ℕ) → D.pages space.old.cache.disk ≡ Some a → IsPlaced a held.now slot.now.overflow bytes → IfOk result (λ value. value ≡ bytes) }
+    ensures lawful { (a : Pages) (bytes : List ℕ) → D.pages space.old.cache.disk ≡ Some a → IsPlaced a held.now slot.now.overflow bytes → IfErr result IsNoPage }
+    ensures refused { IfErr result (IsSlotRefused space.new.cache.kept slot.now) }
     ensures free { space.new.free.items ≡ space.old.free.items }
     ensures fresh { space.new.fresh ≡ space.old.fresh }
     ensures rose { IsErrOf result TableFault.Disk → Rose (D.faults space.old.cache.disk) (D.faults space.new.cache.disk) }
@@ -224,10 +247,12 @@ pub(crate) fn fetch<D: Disk>(
 {
     match held {
         Held::Here { value } => Ok(value.copy()?),
-        Held::Chain { len, first } => {
+        Held::Chain { len, first: _ } => {
             let len = usize::from(*len);
-            let bytes = read_chain(space, overflow, len)?;
-            long_value(bytes, len, *first)
+            match read_chain(space, slot.overflow.as_slice(), len) {
+                Ok(bytes) => Ok(long_value(bytes)),
+                Err(fault) => Err(fault),
+            }
         }
     }
 }

@@ -1,4 +1,10 @@
-pub mod Seen
 pub mod Cuts
 pub mod Lookups
 pub mod Overlaps
+pub mod Walks
+pub mod Sightings
+pub mod Links
+pub mod Leafed
+pub mod Seen
+pub mod Listed
+pub mod Seeing

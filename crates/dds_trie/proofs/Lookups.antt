@@ -1,47 +1,62 @@
 -- Laws of the look-up by depth.
-use Rattle.std.proofs.Common.{◌≡◌, ℕ, ◌+◌, ◌-◌, ◌<◌, ◌≤◌, inl, true, false, Option, Some, None, is_some, refl, ap, sym, ◌∙◌, zero, suc, arith}
+use Rattle.std.proofs.Common.{◌≡◌, ℕ, ◌+◌, ◌-◌, ◌<◌, ◌≤◌, List, get_or, Option, Some, None, refl, ap, sym, ◌∙◌, zero, suc, arith}
 use Rattle.std.specs.FinMap.{get}
 use Rattle.dds_base.specs.declared.leaf.Leaf.{Leaf}
-use Rattle.dds_trie.specs.Trie.{LeafMap, name_at, or_else, leaf_within, IsWithin}
+use Rattle.dds_trie.specs.declared.nodes.Node.{Node}
+use Rattle.dds_trie.specs.Trie.{LeafMap, name_at, or_else, leaf_within, shallower}
+use Rattle.dds_trie.specs.Nodes.{place, seen, linked, blank, IsTrie}
+use Rattle.dds_trie.proofs.Walks.{none-at}
+use Rattle.dds_trie.proofs.Sightings.{seen-at, seen-off}
 
 pub within-none : (m : LeafMap) (key : ℕ) → leaf_within m 0 key ≡ get m (name_at key 0)
 unfolding leaf_within
 within-none m key = refl
 
-within-more : (m : LeafMap) (depth key : ℕ) → leaf_within m (suc depth) key ≡ or_else (get m (name_at key (suc depth))) (leaf_within m depth key)
+pub within-more : (m : LeafMap) (depth key : ℕ) → leaf_within m (suc depth) key ≡ or_else (get m (name_at key (suc depth))) (leaf_within m depth key)
 unfolding leaf_within
 within-more m depth key = refl
 
--- where the depth above 0 is counted down
-pub within-down : (m : LeafMap) (depth key : ℕ) → 0 < depth → leaf_within m depth key ≡ or_else (get m (name_at key depth)) (leaf_within m (depth - 1) key)
-within-down m zero key h = absurd (omega (arith, h))
-within-down m (suc d) key h = within-more m d key ∙ ap (λ n. or_else (get m (name_at key (suc d))) (leaf_within m n key)) (omega arith)
+or-none : (a b : Option Leaf) → a ≡ None → or_else a b ≡ b
+or-none a b h = ap (λ o. or_else o b) h
 
-or-some : (a b : Option Leaf) → is_some a ≡ true → or_else a b ≡ a
-or-some None b h = cc
-or-some (Some x) b h = refl
+or-nothing : (a : Option Leaf) → or_else a None ≡ a
+or-nothing None = refl
+or-nothing (Some x) = refl
 
-or-none : (a b : Option Leaf) → is_some a ≡ false → or_else a b ≡ b
-or-none None b h = refl
-or-none (Some x) b h = cc
+-- the leaf of just this depth, else the deepest of less
+within-own : (m : LeafMap) (depth key : ℕ) → or_else (get m (name_at key depth)) (shallower m depth key) ≡ leaf_within m depth key
+within-own m zero key = or-nothing (get m (name_at key 0)) ∙ sym (within-none m key)
+within-own m (suc d) key = sym (within-more m d key)
 
--- a leaf of this depth is found first
-pub within-found : (m : LeafMap) (depth key : ℕ) (leaf : Leaf) → Some leaf ≡ get m (name_at key depth) → Some leaf ≡ leaf_within m depth key
-within-found m zero key leaf h = h ∙ sym (within-none m key)
-within-found m (suc d) key leaf h = h ∙ sym (within-more m d key ∙ or-some (get m (name_at key (suc d))) (leaf_within m d key) (ap is_some (sym h)))
+-- what the walk has found when it has come to a node
+pub within-here : (ns : List Node) (key depth from : ℕ) (n : Node) (r best : Option Leaf) → IsTrie ns → place ns key depth ≡ Some from → n ≡ get_or ns from blank → r ≡ or_else n.leaf best → best ≡ shallower (seen ns) depth key → r ≡ leaf_within (seen ns) depth key
+within-here ns key depth from n r best trie at node found before =
+    found ∙ ap (λ b. or_else n.leaf b) before ∙ ap (λ (x : Node). or_else x.leaf (shallower (seen ns) depth key)) node ∙ ap (λ o. or_else o (shallower (seen ns) depth key)) (sym (seen-at ns key depth from trie at)) ∙ within-own (seen ns) depth key
 
-pub within-next : (m : LeafMap) (depth key : ℕ) → 0 < depth → None ≡ get m (name_at key depth) → leaf_within m (depth - 1) key ≡ leaf_within m depth key
-within-next m depth key h none = sym (within-down m depth key h ∙ or-none (get m (name_at key depth)) (leaf_within m (depth - 1) key) (ap is_some (sym none)))
+-- no leaf is deeper
+beyond : (m : LeafMap) (depth key more : ℕ) → ((e : ℕ) → depth < e → get m (name_at key e) ≡ None) → leaf_within m (depth + more) key ≡ leaf_within m depth key
+beyond m depth key zero h = ap (λ n. leaf_within m n key) (omega arith)
+beyond m depth key (suc k) h =
+    let e : depth + suc k ≡ suc (depth + k) = omega arith in
+    ap (λ n. leaf_within m n key) e ∙ within-more m (depth + k) key ∙ or-none (get m (name_at key (suc (depth + k)))) (leaf_within m (depth + k) key) (h (suc (depth + k)) (omega arith)) ∙ beyond m depth key k h
 
--- no leaf is deeper than the bound
-beyond : (m : LeafMap) (deepest more key : ℕ) → IsWithin m deepest → leaf_within m (deepest + more) key ≡ leaf_within m deepest key
-beyond m deepest zero key h = ap (λ n. leaf_within m n key) (omega arith)
-beyond m deepest (suc k) key h =
-    let e : deepest + suc k ≡ suc (deepest + k) = omega arith in
-    let none : get m (name_at key (suc (deepest + k))) ≡ None = h (name_at key (suc (deepest + k))) (inl (omega arith)) in
-    ap (λ n. leaf_within m n key) e ∙ within-more m (deepest + k) key ∙ or-none (get m (name_at key (suc (deepest + k)))) (leaf_within m (deepest + k) key) (ap is_some none) ∙ beyond m deepest k key h
+-- where the walk ends, nothing deeper covers the key
+pub within-end : (ns : List Node) (key depth all : ℕ) (r : Option Leaf) → IsTrie ns → place ns key (depth + 1) ≡ None → depth ≤ all → r ≡ leaf_within (seen ns) depth key → r ≡ leaf_within (seen ns) all key
+within-end ns key depth all r trie off le here =
+    let e : depth + (all - depth) ≡ all = omega (arith, le) in
+    here ∙ sym (ap (λ n. leaf_within (seen ns) n key) (sym e) ∙ beyond (seen ns) depth key (all - depth) (λ d lt. seen-off ns key d trie (none-at ns key (depth + 1) d off (omega (arith, lt)))))
 
-pub within-all : (m : LeafMap) (deepest all key : ℕ) → IsWithin m deepest → deepest ≤ all → leaf_within m deepest key ≡ leaf_within m all key
-within-all m deepest all key h le =
-    let e : deepest + (all - deepest) ≡ all = omega (arith, le) in
-    sym (ap (λ n. leaf_within m n key) (sym e) ∙ beyond m deepest (all - deepest) key h)
+pub shallower-next : (m : LeafMap) (depth key : ℕ) (r : Option Leaf) → r ≡ leaf_within m depth key → r ≡ shallower m (depth + 1) key
+shallower-next m depth key r h =
+    let e : suc depth ≡ depth + 1 = omega arith in
+    h ∙ ap (λ d. shallower m d key) e
+
+pub linked-some : (n : ℕ) (o : Option ℕ) → (n ≡ 0 → ⊥) → o ≡ linked n → o ≡ Some n
+linked-some zero o h e = absurd (h refl)
+linked-some (suc n) o h e = e
+
+-- where there are no nodes
+pub within-nothing : (ns : List Node) (key depth : ℕ) → IsTrie ns → ((e : ℕ) → place ns key e ≡ None) → leaf_within (seen ns) depth key ≡ None
+within-nothing ns key zero trie off = within-none (seen ns) key ∙ seen-off ns key 0 trie (off 0)
+within-nothing ns key (suc d) trie off =
+    within-more (seen ns) d key ∙ or-none (get (seen ns) (name_at key (suc d))) (leaf_within (seen ns) d key) (seen-off ns key (suc d) trie (off (suc d))) ∙ within-nothing ns key d trie off

@@ -1,47 +1,51 @@
--- Some key of a tree passes a test where some bound name does.
-use Rattle.std.proofs.Common.{◌≡◌, Bool, true, false, ◌||◌, cond, List, [], ◌∷◌, Option, Some, is_some, IsTrue, refl, ap, sym, ◌∙◌, ◌↔◌}
+-- Some node of a trie, and some key of a map, passes a test where some bound name does.
+use Rattle.std.proofs.Common.{◌≡◌, ℕ, ◌<◌, suc, length, get_or, arith, Bool, true, false, ◌||◌, ◌&&◌, cond, List, [], ◌∷◌, is_some, IsTrue, refl, ap, sym, ◌∙◌, ◌↔◌}
 use Rattle.std.proofs.lemmas.Bool.{false≢true}
 use Rattle.std.specs.List.{list_any}
-use Rattle.std.specs.Map.{lookup, keys_of}
-use Rattle.std.specs.BTreeMap.{BTreeMap, is_at}
 use Rattle.std.specs.Cmp.{Equal-is}
-use Rattle.std.specs.FinMap.{from_entries, keys, contains_key-keys}
+use Rattle.std.specs.FinMap.{get, keys, contains_key-keys}
 use Rattle.std.specs.Ordering.{eq_by_cmp}
 use Rattle.dds_base.specs.Name.{Name, overlaps}
-use Rattle.dds_base.specs.declared.leaf.Leaf.{Leaf}
 use Rattle.dds_trie.specs.Trie.{name_cmp, LeafMap, OverlapsSome}
-use Rattle.dds_trie.proofs.Seen.{get-seen}
-use Rattle.dds_trie.proofs.Cuts.{name_total, name_antisymmetric, names-alike, self-test}
+use Rattle.dds_trie.specs.declared.nodes.Node.{Node}
+use Rattle.dds_trie.specs.Nodes.{seen, blank, bound_overlaps, IsTrie}
+use Rattle.dds_trie.proofs.Sightings.{same, same-is, get-seen-more, get-seen-none, seen-node}
+use Rattle.dds_trie.proofs.Cuts.{name_antisymmetric, names-alike, self-test}
 
-record Listed (test : Name → Bool) (es : List (Name × Leaf)) : Type 0 where
-  pub other : Name
-  pub bound : is_some (lookup (is_at (name_cmp other)) es) ≡ true
-  pub passes : test other ≡ true
-
-self-at : (k : Name) → is_at (name_cmp k) k ≡ true
+self-at : (k : Name) → eq_by_cmp name_cmp k k ≡ true
 self-at k = names-alike k k ∙ self-test k
-
-more : (b : Bool) (v : Leaf) (w : Option Leaf) → is_some w ≡ true → is_some (cond b (Some v) w) ≡ true
-more true v w h = refl
-more false v w h = h
-
-listed : (test : Name → Bool) (es : List (Name × Leaf)) → list_any test (keys_of es) ≡ true → Listed test es
-listed test [] h = absurd (false≢true h)
-listed test (e ∷ es) h =
-    elim (test e.0) as (λ b. test e.0 ≡ b → (b || list_any test (keys_of es)) ≡ true → Listed test (e ∷ es)) [ true ↦ λ t k. record { other = e.0; bound = ap (λ b. is_some (cond b (Some e.1) (lookup (is_at (name_cmp e.0)) es))) (self-at e.0); passes = t } | false ↦ λ t k. let r = listed test es k in record { other = r.other; bound = more (is_at (name_cmp r.other) e.0) e.1 (lookup (is_at (name_cmp r.other)) es) r.bound; passes = r.passes } ] refl h
 
 or-true : (b : Bool) → (b || true) ≡ true
 or-true true = refl
 or-true false = refl
 
-unlisted : (test : Name → Bool) (es : List (Name × Leaf)) (other : Name) → is_some (lookup (is_at (name_cmp other)) es) ≡ true → test other ≡ true → list_any test (keys_of es) ≡ true
-unlisted test [] other h t = absurd (false≢true h)
-unlisted test (e ∷ es) other h t =
-    elim (is_at (name_cmp other) e.0) as (λ b. is_at (name_cmp other) e.0 ≡ b → is_some (cond b (Some e.1) (lookup (is_at (name_cmp other)) es)) ≡ true → (test e.0 || list_any test (keys_of es)) ≡ true) [ true ↦ λ b k. let same : other ≡ e.0 = name_antisymmetric other e.0 ((Equal-is (name_cmp other e.0)).0 b) in ap (λ u. u || list_any test (keys_of es)) (ap test (sym same) ∙ t) | false ↦ λ b k. ap (λ u. test e.0 || u) (unlisted test es other k t) ∙ or-true (test e.0) ] refl h
+-- the first node that passes
+record Passing (ns : List Node) (name : Name) : Type 0 where
+  pub at : ℕ
+  pub there : at < length ns
+  pub bound : is_some (get_or ns at blank).leaf ≡ true
+  pub passes : overlaps (get_or ns at blank).name name ≡ true
 
-pub overlaps-seen : (m : BTreeMap Name Leaf) (name : Name) (b : Bool) → b ≡ list_any (λ other. overlaps other name) (keys_of m.entries) → IsTrue b ↔ OverlapsSome (from_entries {R = name_cmp} m.entries) name
-overlaps-seen m name b h =
-    (λ t. let r = listed (λ other. overlaps other name) m.entries (sym h ∙ t) in record { other = r.other; bound = ap is_some (get-seen name_total m r.other) ∙ r.bound; overlaps = r.passes }, λ o. h ∙ unlisted (λ other. overlaps other name) m.entries o.other (sym (ap is_some (get-seen name_total m o.other)) ∙ o.bound) o.overlaps)
+both-true : (a b : Bool) → (a && b) ≡ true → (a ≡ true) × (b ≡ true)
+both-true true b h = (refl, h)
+both-true false b h = cc
+
+passing : (ns : List Node) (name : Name) → list_any (bound_overlaps name) ns ≡ true → Passing ns name
+passing [] name h = absurd (false≢true h)
+passing (n ∷ ns) name h =
+    elim (bound_overlaps name n) as (λ b. bound_overlaps name n ≡ b → (b || list_any (bound_overlaps name) ns) ≡ true → Passing (n ∷ ns) name) [ true ↦ λ t k. let w = both-true _ _ t in record { at = 0; there = omega arith; bound = w.0; passes = w.1 } | false ↦ λ t k. let r = passing ns name k in record { at = suc r.at; there = omega (arith, r.there); bound = r.bound; passes = r.passes } ] refl h
+
+any-seen : (ns : List Node) (name other : Name) → is_some (get (seen ns) other) ≡ true → overlaps other name ≡ true → list_any (bound_overlaps name) ns ≡ true
+any-seen [] name other h t = absurd (false≢true (sym (ap is_some (get-seen-none other)) ∙ h))
+any-seen (n ∷ ns) name other h t =
+    elim (same other n.name) as (λ b. same other n.name ≡ b → is_some (cond b n.leaf (get (seen ns) other)) ≡ true → (bound_overlaps name n || list_any (bound_overlaps name) ns) ≡ true) [
+      | true ↦ λ e k. ap (λ u. (u && overlaps n.name name) || list_any (bound_overlaps name) ns) k ∙ ap (λ u. u || list_any (bound_overlaps name) ns) (ap (λ (x : Name). overlaps x name) (sym (same-is other n.name e)) ∙ t)
+      | false ↦ λ e k. ap (λ u. bound_overlaps name n || u) (any-seen ns name other k t) ∙ or-true (bound_overlaps name n)
+    ] refl (sym (ap is_some (get-seen-more n ns other)) ∙ h)
+
+pub overlaps-seen : (ns : List Node) (name : Name) (b : Bool) → IsTrie ns → b ≡ list_any (bound_overlaps name) ns → IsTrue b ↔ OverlapsSome (seen ns) name
+overlaps-seen ns name b h e =
+    (λ t. let r = passing ns name (sym e ∙ t) in record { other = (get_or ns r.at blank).name; bound = ap is_some (seen-node ns r.at h r.there) ∙ r.bound; overlaps = r.passes }, λ o. e ∙ any-seen ns name o.other o.bound o.overlaps)
 
 any-with : (test : Name → Bool) (ks : List Name) (k : Name) → list_any (eq_by_cmp name_cmp k) ks ≡ true → test k ≡ true → list_any test ks ≡ true
 any-with test [] k h t = absurd (false≢true h)

@@ -1,7 +1,7 @@
-use Rattle.std.specs.Prelude.{◌≡◌, ℕ, Bool, ◌&&◌, ◌<◌, ◌≤◌, ◌%◌, ◌^◌, ◌⊎◌, Option, Some, None, true, not, nat_le, nat_lt, zero, suc}
+use Rattle.std.specs.Prelude.{◌≡◌, ℕ, List, map, Bool, ◌&&◌, ◌<◌, ◌≤◌, ◌%◌, ◌^◌, ◌⊎◌, Option, Some, None, true, not, nat_le, nat_lt, zero, suc}
 use Rattle.std.specs.Ordering.{nat_cmp, ordering_then}
 use Rattle.std.specs.declared.cmp.Ordering.{Ordering}
-use Rattle.std.specs.FinMap.{FinMap, get, insert, remove, retain_keys, contains_key}
+use Rattle.std.specs.FinMap.{FinMap, entries, get, insert, remove, retain_keys, contains_key}
 use Rattle.dds_base.specs.Name.{Name, covers, overlaps}
 use Rattle.dds_base.specs.declared.leaf.Leaf.{Leaf}
 
@@ -12,6 +12,10 @@ name_cmp a b = ordering_then (nat_cmp a.bits b.bits) (nat_cmp a.depth b.depth)
 -- a partition map: leaves by their names
 abbrev pub LeafMap : Type 0
 LeafMap = FinMap name_cmp Leaf
+
+-- the leaves in the order of their names
+abbrev pub leaves_of : LeafMap → List Leaf
+leaves_of m = map (λ e. e.1) (entries m)
 
 -- all keys of the second name are covered by the first
 abbrev pub is_under : Name → Name → Bool
@@ -61,3 +65,8 @@ IsWithin m deepest = (name : Name) → (deepest < name.depth) ⊎ (2 ^ name.dept
 abbrev pub rebound : LeafMap → Name → Option Leaf → LeafMap
 rebound m name None = remove m name
 rebound m name (Some leaf) = insert m name leaf
+
+-- the deepest leaf of less than this depth that covers the key
+abbrev pub shallower : LeafMap → ℕ → ℕ → Option Leaf
+shallower m zero key = None
+shallower m (suc depth) key = leaf_within m depth key

@@ -2,6 +2,8 @@
 #![tactic(auto)]
 
 mod leaves;
+mod nodes;
+mod sorted;
 #[cfg(test)]
 mod tests;
 pub mod trie;

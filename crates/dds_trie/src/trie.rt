@@ -1,11 +1,12 @@
 //! A map from names to leaves that is looked up by the bits of a key.
 
-ghost use Rattle.std.specs.Prelude.{◌≡◌, ◌↔◌, IsTrue, ◌<◌, ◌≤◌, ◌^◌, OnOk, OnErr, IsSome, option_copied};
+ghost use Rattle.std.specs.Prelude.{◌≡◌, ◌↔◌, IsTrue, ◌<◌, ◌≤◌, ◌^◌, OnOk, OnErr, IsSome, option_copied, IfOk};
 ghost use Rattle.std.specs.FinMap as map;
 ghost use Rattle.dds_groups.specs.Names.{low_half, high_half};
-ghost use Rattle.dds_trie.specs.Trie.{IsWithin, cut_below, name_at, leaf_within, put, rebound, OverlapsSome};
+ghost use Rattle.dds_trie.specs.Trie.{IsWithin, cut_below, leaf_within, put, rebound, leaves_of, OverlapsSome};
 
 use crate::leaves::Leaves;
+use dds_base::items::Items;
 use dds_base::leaf::Leaf;
 use dds_base::memory::Memory;
 use dds_base::name::LeafName;
@@ -13,8 +14,8 @@ use dds_groups::halves::{high_half, low_half};
 use std::alloc::Global;
 use std::marker::Model;
 
-/// Leaves by their names. A look-up goes by the key's lowest bits from the deepest leaf's depth up, so it takes at most
-/// 17 steps. Contracts see a finite map.
+/// Leaves by their names. A look-up goes down by the key's lowest bits, at most 16 steps, however many leaves there are.
+/// Contracts see a finite map.
 #[derive(Drop)]
 pub struct Trie {
     leaves: Leaves,
@@ -52,7 +53,7 @@ impl Trie {
     pub fn leaf_of(&self, key: u64) -> Option<&Leaf>
         ensures { option_copied result ≡ leaf_within self.now 16 key }
     {
-        leaf_within(&self.leaves, self.deepest, key)
+        self.leaves.leaf_of(key)
     }
 
     /// The leaf of this name; `None` where there is none.
@@ -60,6 +61,13 @@ impl Trie {
         ensures { option_copied result ≡ map.get self.now name }
     {
         self.leaves.get(name)
+    }
+
+    /// A copy of all leaves, by bits and then by depth.
+    pub fn leaves(&self, alloc: Global) -> Result<Items<Leaf>, Memory>
+        ensures { IfOk result (λ list. list ≡ leaves_of self.now) }
+    {
+        self.leaves.all(alloc)
     }
 
     /// Whether some leaf's name overlaps the name. Looks at each leaf.
@@ -131,50 +139,31 @@ fn put_back(leaves: &mut Leaves, name: LeafName, was: Option<Leaf>)
     }
 }
 
-/// The name of this depth that covers the key.
-fn name_at(key: u64, depth: u8) -> LeafName
-    requires { depth ≤ 16 }
-    ensures { result ≡ name_at key depth }
-{
-    LeafName::of((key % (1u64 << depth)) as u16, depth).unwrap()
-}
-
-/// The leaf of just this depth that covers the key.
-fn leaf_at(leaves: &Leaves, depth: u8, key: u64) -> Option<&Leaf>
-    requires { depth ≤ 16 }
-    ensures { option_copied result ≡ map.get leaves.now (name_at key depth) }
-{
-    leaves.get(name_at(key, depth))
-}
-
-/// The deepest leaf of at most this depth that covers the key.
-fn leaf_within(leaves: &Leaves, depth: u8, key: u64) -> Option<&Leaf>
-    requires { depth ≤ 16 }
-    ensures { option_copied result ≡ leaf_within leaves.now depth key }
-{
-    if depth == 0 {
-        return leaf_at(leaves, 0, key);
-    }
-    match leaf_at(leaves, depth, key) {
-        Some(leaf) => Some(leaf),
-        None => leaf_within(leaves, depth - 1, key),
-    }
-}
-
 /// Takes away each leaf whose name is deeper than a name that covers all its keys. None is deeper than `deepest`.
+#[cycle(cutting)]
 fn cut_below(leaves: &mut Leaves, name: LeafName, deepest: u8)
     requires depth { deepest ≤ 16 }
     requires within { IsWithin leaves.old deepest }
     ensures { leaves.new ≡ cut_below leaves.old name }
 {
     if depth_of(name) < deepest {
-        let low = low_half(name);
-        leaves.remove(low);
-        cut_below(leaves, low, deepest);
-        let high = high_half(name);
-        leaves.remove(high);
-        cut_below(leaves, high, deepest);
+        cut(leaves, low_half(name), deepest);
+        cut(leaves, high_half(name), deepest);
     }
+}
+
+/// Takes away each leaf whose name is under a name, its own included. Goes no further down than there are nodes.
+#[cycle(cutting)]
+fn cut(leaves: &mut Leaves, name: LeafName, deepest: u8)
+    requires depth { deepest ≤ 16 }
+    requires within { IsWithin leaves.old deepest }
+    ensures { leaves.new ≡ cut_below (map.remove leaves.old name) name }
+{
+    if leaves.none_under(name) {
+        return;
+    }
+    leaves.remove(name);
+    cut_below(leaves, name, deepest);
 }
 
 fn depth_of(name: LeafName) -> u8

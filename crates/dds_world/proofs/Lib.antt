@@ -1,3 +1,3 @@
 pub mod Openings
-pub mod Walks
+pub mod Handling
 pub mod Frames

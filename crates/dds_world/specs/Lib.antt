@@ -2,6 +2,6 @@ pub mod World
 pub mod Turn
 pub mod Trace
 pub mod Stands
-pub mod Picking
-pub mod Walk
+pub mod Causes
+pub mod Reached
 pub mod Framed

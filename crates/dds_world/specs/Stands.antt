@@ -1,71 +1,22 @@
-use Rattle.std.specs.Prelude.{ℕ, ◌+◌, ◌%◌, ◌<◌, ◌≤◌, ◌≡◌, ◌≢◌, ◌⊎◌, Bool, true, false, not, ◌&&◌, ◌||◌, ◌==◌, List, [], ◌∷◌, Option, Some, None, length, map, filter, IsTrue}
+-- What the headline says of a run: its calls stand in one legal history.
+use Rattle.std.specs.Prelude.{ℕ, ◌+◌, ◌<◌, ◌≡◌, ◌⊎◌, Bool, true, false, not, ◌&&◌, ◌||◌, ◌==◌, List, [], ◌∷◌, Option, Some, None, map, filter, IsTrue, if◌then◌else◌}
 use Rattle.std.specs.List.{list_any, AllByRecursion}
 use Rattle.dds_base.specs.Number.{Txn, same_txn}
 use Rattle.dds_base.specs.Op.{is_get}
 use Rattle.dds_base.specs.declared.number.CallNo.{CallNo}
-use Rattle.dds_base.specs.declared.op.Op.{Op}
 use Rattle.dds_base.specs.declared.op.Reply.{Reply}
 use Rattle.dds_base.specs.declared.op.Reply.TheVariants as reply
 use Rattle.dds_history.specs.History.{IsLegal}
 use Rattle.dds_history.specs.declared.entry.Entry.{Entry}
-use Rattle.dds_script.specs.declared.opening.Opening.{Opening}
-use Rattle.dds_world.specs.World.{World, outbox, link, opening_world}
-use Rattle.dds_world.specs.Trace.{Trace, Asked, Made, Told, next, start, trace_from}
-use Rattle.dds_world.specs.declared.step.Input.{Input}
-use Rattle.dds_world.specs.declared.step.Input.TheVariants.{Call}
-use Rattle.dds_world.specs.declared.step.Step.{Step}
-use Rattle.dds_world.specs.declared.step.Step.TheVariants as step
-
--- an answer is of this call
-abbrev pub answers : Told → ℕ → CallNo → Bool
-answers told caller call = told.answer.caller == caller && told.answer.call.0 == call.0
-
--- the call is not answered yet
-abbrev pub is_open_call : List Told → Asked → Bool
-is_open_call told a = not (list_any (λ r. answers r a.caller a.call) told)
-
--- a call of this caller is not answered yet
-abbrev pub is_open : Trace → ℕ → Bool
-is_open t caller = list_any (λ a. a.caller == caller && is_open_call t.told a) t.asked
-
--- a call's Input is possible at the caller's library, with no former call of the caller open, and with a number above
--- those of its former calls
-pub record IsPossibleCall (callers : ℕ) (t : Trace) (node caller : ℕ) (call : CallNo) : Type 0 where
-  pub is_caller : caller < callers
-  pub libraries : 0 < length t.world.libraries
-  pub library : node ≡ 64 + caller % length t.world.libraries
-  pub closed : is_open t caller ≡ false
-  pub rises : AllByRecursion (λ (a : Asked). a.caller ≡ caller → a.call.0 < call.0) t.asked
-
--- the node is one of the cluster
-abbrev pub IsNode : World → ℕ → Type 0
-IsNode w node = (node < length w.bricks) ⊎ ((64 ≤ node) × (node < 64 + length w.libraries))
-
--- a step is possible: Handle where the link isn't empty, Post where the outbox isn't
-abbrev pub IsPossibleInput : ℕ → Trace → ℕ → Input → Type 0
-IsPossibleInput callers t node (Call caller call op) = IsPossibleCall callers t node caller call
-
-abbrev pub IsPossible : ℕ → Trace → Step → Type 0
-IsPossible callers t (step.Input node i) = IsPossibleInput callers t node i
-IsPossible callers t (step.Handle node from) = IsNode t.world node × IsNode t.world from × (link t.world from node ≢ [])
-IsPossible callers t (step.Post node) = IsNode t.world node × (outbox t.world node ≢ [])
-
--- each step of a list is possible where it stands
-abbrev pub IsRunFrom : ℕ → Trace → List Step → Type 0
-IsRunFrom callers t [] = Unit {0}
-IsRunFrom callers t (s ∷ steps) = IsPossible callers t s × IsRunFrom callers (next t s) steps
-
--- the run that a list of steps makes from an opening
-abbrev pub run_of : Opening → List Step → Trace
-run_of opening steps = trace_from (start (opening_world opening)) steps
-
--- each step of a journal is possible where it stands
-abbrev pub IsRun : Opening → List Step → Type 0
-IsRun opening steps = IsRunFrom opening.callers (start (opening_world opening)) steps
+use Rattle.dds_world.specs.declared.runs.CallPlace.{CallPlace}
+use Rattle.dds_world.specs.declared.trace.Asked.{Asked}
+use Rattle.dds_world.specs.declared.trace.Made.{Made}
+use Rattle.dds_world.specs.declared.trace.Told.{Told}
+use Rattle.dds_world.specs.declared.trace.Trace.{Trace}
 
 -- a read's attempt answered its call
 abbrev pub is_answer : List Told → Txn → Bool
-is_answer told txn = list_any (λ r. same_txn r.answer.txn txn) told
+is_answer told txn = list_any (λ r. same_txn r.txn txn) told
 
 -- a point stands in the history: each first applied point, and each read whose answer the call was given
 abbrev pub stands_in : List Told → Made → Bool
@@ -79,106 +30,103 @@ placed_history t = filter (stands_in t.told) t.made
 abbrev pub history : Trace → List Entry
 history t = map (λ m. m.entry) (placed_history t)
 
--- a call of the journal: where it was made, and where and how it was answered
-pub record CallOf : Type 0 where
-  pub caller : ℕ
-  pub call : CallNo
-  pub op : Op
-  pub asked : ℕ
-  pub answer : Option Told
+-- an answer is of this call
+abbrev pub answers : ℕ → CallNo → Told → Bool
+answers caller call told = told.caller == caller && told.call.0 == call.0
 
-abbrev pub or_else : Bool → Told → Option Told → Option Told
-or_else true r other = Some r
-or_else false r other = other
-
--- the first answer to a call
+-- the answer to a call, if there is one
 abbrev pub answer_to : List Told → ℕ → CallNo → Option Told
 answer_to [] caller call = None
-answer_to (r ∷ rs) caller call = or_else (answers r caller call) r (answer_to rs caller call)
+answer_to (r ∷ rs) caller call = if answers caller call r then Some r else answer_to rs caller call
 
--- the calls of the journal, in the order of their Inputs
-abbrev pub calls : Trace → List CallOf
-calls t = map (λ a. record { caller = a.caller; call = a.call; op = a.op; asked = a.place; answer = answer_to t.told a.caller a.call }) t.asked
+abbrev pub placed_call : Asked → Option Told → CallPlace
+placed_call a None = record { caller = a.caller; call = a.call; asked = a.place; answered = None; reply = None }
+placed_call a (Some r) = record { caller = a.caller; call = a.call; asked = a.place; answered = Some r.place; reply = Some r.reply }
+
+-- the calls of a run in the order of their Inputs, with the place of the Input, and of the answer
+abbrev pub calls : Trace → List CallPlace
+calls t = map (λ a. placed_call a (answer_to t.told a.caller a.call)) t.asked
 
 -- the entries of one call
-abbrev pub entries_of : List Made → CallOf → List Made
-entries_of entries c = filter (λ m. m.entry.caller == c.caller && m.entry.call.0 == c.call.0) entries
+abbrev pub entries_of : List Made → Asked → List Made
+entries_of entries a = filter (λ m. m.entry.caller == a.caller && m.entry.call.0 == a.call.0) entries
 
--- a call answered with a result has exactly one entry, with that reply, between its Input and its answer
-pub record HasOneEntry (entries : List Made) (c : CallOf) (told : Told) : Type 0 where
+-- a call has exactly one entry, with the reply that it was answered, between its Input and its answer
+pub record HasOneEntry (entries : List Made) (a : Asked) (told : Told) : Type 0 where
   pub entry : Made
-  pub only : entries_of entries c ≡ entry ∷ []
-  pub reply : entry.entry.reply ≡ told.answer.reply
-  pub after_input : c.asked < entry.place
+  pub only : entries_of entries a ≡ entry ∷ []
+  pub reply : entry.entry.reply ≡ told.reply
+  pub after_input : a.place < entry.place
   pub before_answer : entry.place < told.place
-
-abbrev pub ResultHasOneEntry : List Made → CallOf → Told → Reply → Type 0
-ResultHasOneEntry entries c told (reply.Value value) = HasOneEntry entries c told
-ResultHasOneEntry entries c told reply.Absent = HasOneEntry entries c told
-ResultHasOneEntry entries c told (reply.Done was) = HasOneEntry entries c told
-ResultHasOneEntry entries c told (reply.Swapped done) = HasOneEntry entries c told
-ResultHasOneEntry entries c told (reply.Again met) = Unit {0}
-ResultHasOneEntry entries c told (reply.Full brick) = Unit {0}
-ResultHasOneEntry entries c told (reply.Lost name) = Unit {0}
-
-abbrev pub AnsweredOnceBy : List Made → CallOf → Option Told → Type 0
-AnsweredOnceBy entries c None = Unit {0}
-AnsweredOnceBy entries c (Some told) = ResultHasOneEntry entries c told told.answer.reply
-
--- of a call that was answered with a result
-abbrev pub AnsweredOnce : List Made → CallOf → Type 0
-AnsweredOnce entries c = AnsweredOnceBy entries c c.answer
-
-abbrev pub RefusalHasNone : List Made → CallOf → Reply → Type 0
-RefusalHasNone entries c (reply.Value value) = Unit {0}
-RefusalHasNone entries c reply.Absent = Unit {0}
-RefusalHasNone entries c (reply.Done was) = Unit {0}
-RefusalHasNone entries c (reply.Swapped done) = Unit {0}
-RefusalHasNone entries c (reply.Again met) = entries_of entries c ≡ []
-RefusalHasNone entries c (reply.Full brick) = entries_of entries c ≡ []
-RefusalHasNone entries c (reply.Lost name) = Unit {0}
-
-abbrev pub RefusedNeverBy : List Made → CallOf → Option Told → Type 0
-RefusedNeverBy entries c None = IsTrue (is_get c.op) → entries_of entries c ≡ []
-RefusedNeverBy entries c (Some told) = RefusalHasNone entries c told.answer.reply
-
--- a call that was answered Again or Full has no entry, and an open get has none
-abbrev pub RefusedNever : List Made → CallOf → Type 0
-RefusedNever entries c = RefusedNeverBy entries c c.answer
 
 -- at most one entry, behind a place
 abbrev pub AtMostOneAfter : ℕ → List Made → Type 0
-AtMostOneAfter place [] = Unit {0}
-AtMostOneAfter place (m ∷ []) = place < m.place
-AtMostOneAfter place (m ∷ n ∷ ms) = ⊥
+AtMostOneAfter at [] = Unit {0}
+AtMostOneAfter at (m ∷ []) = at < m.place
+AtMostOneAfter at (m ∷ n ∷ ms) = ⊥
 
-abbrev pub LostHasAtMostOne : List Made → CallOf → Reply → Type 0
-LostHasAtMostOne entries c (reply.Value value) = Unit {0}
-LostHasAtMostOne entries c reply.Absent = Unit {0}
-LostHasAtMostOne entries c (reply.Done was) = Unit {0}
-LostHasAtMostOne entries c (reply.Swapped done) = Unit {0}
-LostHasAtMostOne entries c (reply.Again met) = Unit {0}
-LostHasAtMostOne entries c (reply.Full brick) = Unit {0}
-LostHasAtMostOne entries c (reply.Lost name) = AtMostOneAfter c.asked (entries_of entries c)
+-- what an answer says of its call's entries: a result stands there once, a refusal never, a lost update once or never
+abbrev pub ResultHasOneEntry : List Made → Asked → Told → Reply → Type 0
+ResultHasOneEntry entries a told (reply.Value value) = HasOneEntry entries a told
+ResultHasOneEntry entries a told reply.Absent = HasOneEntry entries a told
+ResultHasOneEntry entries a told (reply.Done was) = HasOneEntry entries a told
+ResultHasOneEntry entries a told (reply.Swapped done) = HasOneEntry entries a told
+ResultHasOneEntry entries a told (reply.Again met) = Unit {0}
+ResultHasOneEntry entries a told (reply.Full brick) = Unit {0}
+ResultHasOneEntry entries a told (reply.Lost name) = Unit {0}
 
-abbrev pub UnansweredOnceOrNeverBy : List Made → CallOf → Option Told → Type 0
-UnansweredOnceOrNeverBy entries c None = is_get c.op ≡ false → AtMostOneAfter c.asked (entries_of entries c)
-UnansweredOnceOrNeverBy entries c (Some told) = LostHasAtMostOne entries c told.answer.reply
+abbrev pub RefusalHasNone : List Made → Asked → Reply → Type 0
+RefusalHasNone entries a (reply.Value value) = Unit {0}
+RefusalHasNone entries a reply.Absent = Unit {0}
+RefusalHasNone entries a (reply.Done was) = Unit {0}
+RefusalHasNone entries a (reply.Swapped done) = Unit {0}
+RefusalHasNone entries a (reply.Again met) = entries_of entries a ≡ []
+RefusalHasNone entries a (reply.Full brick) = entries_of entries a ≡ []
+RefusalHasNone entries a (reply.Lost name) = Unit {0}
+
+abbrev pub LostHasAtMostOne : List Made → Asked → Reply → Type 0
+LostHasAtMostOne entries a (reply.Value value) = Unit {0}
+LostHasAtMostOne entries a reply.Absent = Unit {0}
+LostHasAtMostOne entries a (reply.Done was) = Unit {0}
+LostHasAtMostOne entries a (reply.Swapped done) = Unit {0}
+LostHasAtMostOne entries a (reply.Again met) = Unit {0}
+LostHasAtMostOne entries a (reply.Full brick) = Unit {0}
+LostHasAtMostOne entries a (reply.Lost name) = AtMostOneAfter a.place (entries_of entries a)
+
+-- of a call that was answered with a result
+abbrev pub AnsweredOnceBy : List Made → Asked → Option Told → Type 0
+AnsweredOnceBy entries a None = Unit {0}
+AnsweredOnceBy entries a (Some told) = ResultHasOneEntry entries a told told.reply
+
+abbrev pub AnsweredOnce : List Told → List Made → Asked → Type 0
+AnsweredOnce told entries a = AnsweredOnceBy entries a (answer_to told a.caller a.call)
+
+-- a call that was answered Again or Full has no entry, and an open get has none
+abbrev pub RefusedNeverBy : List Made → Asked → Option Told → Type 0
+RefusedNeverBy entries a None = IsTrue (is_get a.op) → entries_of entries a ≡ []
+RefusedNeverBy entries a (Some told) = RefusalHasNone entries a told.reply
+
+abbrev pub RefusedNever : List Told → List Made → Asked → Type 0
+RefusedNever told entries a = RefusedNeverBy entries a (answer_to told a.caller a.call)
 
 -- an update that is open or was answered Lost has at most one entry, behind its Input
-abbrev pub UnansweredOnceOrNever : List Made → CallOf → Type 0
-UnansweredOnceOrNever entries c = UnansweredOnceOrNeverBy entries c c.answer
+abbrev pub UnansweredOnceOrNeverBy : List Made → Asked → Option Told → Type 0
+UnansweredOnceOrNeverBy entries a None = is_get a.op ≡ false → AtMostOneAfter a.place (entries_of entries a)
+UnansweredOnceOrNeverBy entries a (Some told) = LostHasAtMostOne entries a told.reply
+
+abbrev pub UnansweredOnceOrNever : List Told → List Made → Asked → Type 0
+UnansweredOnceOrNever told entries a = UnansweredOnceOrNeverBy entries a (answer_to told a.caller a.call)
 
 -- an entry belongs to one of the calls, and has its operation
-abbrev pub IsOfACall : List CallOf → Made → Type 0
+abbrev pub IsOfACall : List Asked → Made → Type 0
 IsOfACall [] m = ⊥
-IsOfACall (c ∷ cs) m = ((m.entry.caller ≡ c.caller) × (m.entry.call ≡ c.call) × (m.entry.op ≡ c.op)) ⊎ IsOfACall cs m
+IsOfACall (a ∷ rest) m = ((m.entry.caller ≡ a.caller) × (m.entry.call ≡ a.call) × (m.entry.op ≡ a.op)) ⊎ IsOfACall rest m
 
 -- all calls answered with a result stand in one legal history of one map, each once, between its Input and its answer;
 -- refused calls don't stand there; an unanswered update stands there once or never; and nothing else does
 pub record Stands (t : Trace) : Type 0 where
   pub legal : IsLegal (history t)
-  pub answered_once : AllByRecursion (AnsweredOnce (placed_history t)) (calls t)
-  pub refused_never : AllByRecursion (RefusedNever (placed_history t)) (calls t)
-  pub unanswered_once_or_never : AllByRecursion (UnansweredOnceOrNever (placed_history t)) (calls t)
-  pub entries_are_calls : AllByRecursion (IsOfACall (calls t)) (placed_history t)
+  pub answered_once : AllByRecursion (AnsweredOnce t.told (placed_history t)) t.asked
+  pub refused_never : AllByRecursion (RefusedNever t.told (placed_history t)) t.asked
+  pub unanswered_once_or_never : AllByRecursion (UnansweredOnceOrNever t.told (placed_history t)) t.asked
+  pub entries_are_calls : AllByRecursion (IsOfACall t.asked) (placed_history t)

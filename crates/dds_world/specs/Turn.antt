@@ -1,90 +1,135 @@
-use Rattle.std.specs.Prelude.{ℕ, ◌+◌, ◌-◌, ◌^◌, ◌<◌, ◌≤◌, List, [], ◌∷◌, ◌++◌, Option, Some, None, length, nat_lt, slice_get, slice_set, if◌then◌else◌}
-use Rattle.dds_base.specs.declared.number.NodeNo.{NodeNo}
+-- What a step does to the cluster.
+use Rattle.std.specs.Prelude.{ℕ, ◌-◌, ◌+◌, Bool, true, List, [], ◌∷◌, ◌++◌, Option, Some, None, length, slice_set}
+use Rattle.dds_base.specs.Number.{Txn}
 use Rattle.dds_base.specs.declared.number.CallerNo.{CallerNo}
 use Rattle.dds_base.specs.declared.number.CallNo.{CallNo}
+use Rattle.dds_base.specs.declared.number.NodeNo.{NodeNo}
 use Rattle.dds_base.specs.declared.op.Op.{Op}
+use Rattle.dds_base.specs.declared.op.Op.TheVariants as op
+use Rattle.dds_base.specs.declared.op.Order.{Order}
+use Rattle.dds_base.specs.declared.pending.Pending.{Pending}
+use Rattle.dds_core.specs.Brick.{brick_turn, brick_input}
+use Rattle.dds_core.specs.LibraryTurn.{library_turn, library_input}
+use Rattle.dds_history.specs.Map.{found, reply_with}
 use Rattle.dds_letters.specs.declared.letter.Letter.{Letter}
-use Rattle.dds_first_core.specs.declared.state.BrickState.{BrickState}
-use Rattle.dds_first_core.specs.declared.state.LibraryState.{LibraryState}
-use Rattle.dds_first_core.specs.declared.turn.Point.{Point}
-use Rattle.dds_first_core.specs.declared.turn.CallReply.{CallReply}
-use Rattle.dds_first_core.specs.Turn.{BrickTurn, LibraryTurn}
-use Rattle.dds_first_core.specs.Brick.{brick_turn}
-use Rattle.dds_first_core.specs.Library.{library_turn, library_input}
-use Rattle.dds_world.specs.World.{World, outbox, set_outbox, link, set_link, send}
-use Rattle.dds_world.specs.declared.step.Message.{Message}
+use Rattle.dds_letters.specs.declared.letter.Letter.TheVariants as letter
+use Rattle.dds_locks.specs.Pending.{first_of}
+use Rattle.dds_states.specs.Turn.{BrickTurn, LibraryTurn, to_each, without}
+use Rattle.dds_states.specs.declared.brick_state.BrickState.{BrickState}
+use Rattle.dds_states.specs.declared.library_state.LibraryState.{LibraryState}
+use Rattle.dds_states.specs.declared.turn.Point.{Point}
+use Rattle.dds_states.specs.declared.turn.Point.TheVariants.{Read, Applied}
+use Rattle.dds_states.specs.declared.turn.Replied.{Replied}
+use Rattle.dds_world.specs.World.{World, place, outbox, set_outbox, link, set_link, send, brick_at, library_at, all_nodes, emptied}
 use Rattle.dds_world.specs.declared.step.Input.{Input}
-use Rattle.dds_world.specs.declared.step.Input.TheVariants.{Call}
+use Rattle.dds_world.specs.declared.step.Input.TheVariants as input
+use Rattle.dds_world.specs.declared.step.Message.{Message}
 use Rattle.dds_world.specs.declared.step.Step.{Step}
 use Rattle.dds_world.specs.declared.step.Step.TheVariants as step
+use Rattle.dds_world.specs.declared.trace.Made.{Made}
 
--- what a step does: the cluster after it, the points and the answered calls
+-- what a step does: the cluster after it, its points, and its answers
 pub record WorldTurn : Type 0 where
   pub world : World
-  pub points : List Point
-  pub replies : List CallReply
+  pub made : List Made
+  pub replies : List Replied
 
 -- a step that does nothing
 abbrev pub no_step : World → WorldTurn
-no_step w = record { world = w; points = []; replies = [] }
+no_step w = record { world = w; made = []; replies = [] }
+
+-- a read is of the get that the brick handled
+abbrev pub read_by : ℕ → Txn → Option (List ℕ) → Letter → List Made
+read_by at txn value (letter.Get asked caller call key name stamp) =
+    record { place = at; txn = txn; entry = record { caller = caller; call = call; op = op.Get key; reply = found value } } ∷ []
+read_by at txn value other = []
+
+-- an update is of the transaction that was pending before the turn
+abbrev pub update_by : ℕ → Bool → Option Pending → List Made
+update_by at was None = []
+update_by at was (Some p) =
+    record { place = at; txn = p.txn; entry = record { caller = p.caller; call = p.call; op = p.op; reply = reply_with p.op was } } ∷ []
+
+-- the entry that a point may become
+abbrev pub point_made : ℕ → List Pending → Letter → Point → List Made
+point_made at pending l (Read txn value) = read_by at txn value l
+point_made at pending l (Applied txn was) = update_by at was (first_of pending txn)
+
+abbrev pub points_made : ℕ → List Pending → Letter → List Point → List Made
+points_made at pending l [] = []
+points_made at pending l (p ∷ ps) = point_made at pending l p ++ points_made at pending l ps
 
 -- a brick's turn in the cluster
-abbrev pub brick_does : World → ℕ → BrickTurn → WorldTurn
-brick_does w node t =
-    record { world = send (record w { bricks = slice_set w.bricks node t.state }) node t.letters; points = t.points; replies = [] }
+abbrev pub brick_does : World → ℕ → BrickTurn → List Made → WorldTurn
+brick_does w node t made =
+    record { world = send (record w { bricks = slice_set w.bricks node t.state }) node t.out.letters; made = made; replies = t.out.replies }
 
 -- a library's turn in the cluster
 abbrev pub library_does : World → ℕ → LibraryTurn → WorldTurn
 library_does w node t =
-    record { world = send (record w { libraries = slice_set w.libraries (node - 64) t.state }) (length w.bricks + (node - 64)) t.letters; points = []; replies = t.replies }
+    record { world = send (record w { libraries = slice_set w.libraries (node - 64) t.state }) (length w.bricks + (node - 64)) t.out.letters; made = []; replies = t.out.replies }
 
-abbrev pub at_brick : World → ℕ → ℕ → Letter → Option BrickState → WorldTurn
-at_brick w node from letter None = no_step w
-at_brick w node from letter (Some s) = brick_does w node (brick_turn s from letter)
+abbrev pub brick_handles : World → ℕ → NodeNo → NodeNo → Letter → BrickState → WorldTurn
+brick_handles w at node from l s =
+    brick_does w node (brick_turn s from l) (points_made at s.locks.pending l (brick_turn s from l).out.points)
 
-abbrev pub at_library : World → ℕ → Letter → Option LibraryState → WorldTurn
-at_library w node letter None = no_step w
-at_library w node letter (Some s) = library_does w node (library_turn s letter)
+abbrev pub at_library : World → NodeNo → NodeNo → Letter → Option LibraryState → WorldTurn
+at_library w node from l None = no_step w
+at_library w node from l (Some s) = library_does w node (library_turn s from l)
+
+abbrev pub at_node : World → ℕ → NodeNo → NodeNo → Letter → Option BrickState → WorldTurn
+at_node w at node from l None = at_library w node from l (library_at w node)
+at_node w at node from l (Some s) = brick_handles w at node from l s
 
 -- a node does what its tables say of a letter
-abbrev pub handled : World → ℕ → ℕ → Letter → WorldTurn
-handled w node from letter =
-    if nat_lt node 64 then at_brick w node from letter (slice_get w.bricks node) else at_library w node letter (slice_get w.libraries (node - 64))
+abbrev pub node_does : World → ℕ → NodeNo → NodeNo → Letter → WorldTurn
+node_does w at node from l = at_node w at node from l (brick_at w node)
 
 -- Handle: the first letter leaves the link, and the node does what its tables say of it
-abbrev pub handle : World → ℕ → ℕ → List Message → WorldTurn
-handle w node from [] = no_step w
-handle w node from (m ∷ ms) = handled (set_link w from node ms) node from m.letter
+abbrev pub handle : World → ℕ → NodeNo → NodeNo → List Message → WorldTurn
+handle w at node from [] = no_step w
+handle w at node from (m ∷ ms) = node_does (set_link w from node ms) at node from m.letter
 
 -- Post: the first letter leaves the outbox for the end of its link
-abbrev pub post : World → ℕ → List Message → WorldTurn
+abbrev pub post : World → NodeNo → List Message → WorldTurn
 post w node [] = no_step w
 post w node (m ∷ ms) = no_step (set_link (set_outbox w node ms) node m.to (link w node m.to ++ m ∷ []))
 
--- the library of this node number
-abbrev pub library_at : World → ℕ → Option LibraryState
-library_at w node = if nat_lt node 64 then None else slice_get w.libraries (node - 64)
-
 -- Input of a call: the library opens it and begins
-abbrev pub call_at : World → ℕ → CallerNo → CallNo → Op → Option LibraryState → WorldTurn
-call_at w node caller call op None = no_step w
-call_at w node caller call op (Some s) = library_does w node (library_input s caller call op)
+abbrev pub call_at : World → NodeNo → CallerNo → CallNo → Op → Option LibraryState → WorldTurn
+call_at w node caller call o None = no_step w
+call_at w node caller call o (Some s) = library_does w node (library_input s caller call o)
 
-abbrev pub input : World → ℕ → Input → WorldTurn
-input w node (Call caller call op) = call_at w node caller call op (library_at w node)
+-- Input of an order
+abbrev pub order_at : World → NodeNo → Order → Option BrickState → WorldTurn
+order_at w node o None = no_step w
+order_at w node o (Some s) = brick_does w node (brick_input s o) []
 
--- what a step does
-abbrev pub turn : World → Step → WorldTurn
-turn w (step.Input node i) = input w node i
-turn w (step.Handle node from) = handle w node from (link w from node)
-turn w (step.Post node) = post w node (outbox w node)
+abbrev pub input_at : World → NodeNo → Input → WorldTurn
+input_at w node (input.Call caller call o) = call_at w node caller call o (library_at w node)
+input_at w node (input.Order o) = order_at w node o (brick_at w node)
 
--- a library can take a call: its attempts don't run out
-abbrev pub CanInput : Option LibraryState → Type 0
-CanInput None = Unit {0}
-CanInput (Some s) = (64 ≤ s.number) × (s.next < 2 ^ 63)
+-- the other nodes are told that a node has stopped: its outbox holds the notices alone
+abbrev pub tells : World → NodeNo → World
+tells w node = send (set_outbox w node []) (place w node) (to_each (without (all_nodes w) node) letter.Notice)
 
--- who gets the first letter of an outbox
-abbrev pub first_receiver : List Message → Option NodeNo
-first_receiver [] = None
-first_receiver (m ∷ ms) = Some m.to
+abbrev pub stop_library : World → NodeNo → Option LibraryState → World
+stop_library w node None = w
+stop_library w node (Some s) =
+    tells (record w { libraries = slice_set w.libraries (node - 64) (record s { stopped = true }) }) node
+
+abbrev pub stop_at : World → NodeNo → Option BrickState → World
+stop_at w node None = stop_library w node (library_at w node)
+stop_at w node (Some s) = tells (record w { bricks = slice_set w.bricks node (emptied s.number) }) node
+
+-- Stop: a brick is emptied, a library keeps what it has, and a notice for each other node, in their order, takes the
+-- place of what the outbox held
+abbrev pub stop : World → NodeNo → WorldTurn
+stop w node = no_step (stop_at w node (brick_at w node))
+
+-- what the step at a place of the journal does
+abbrev pub turn : ℕ → World → Step → WorldTurn
+turn at w (step.Input node i) = input_at w node i
+turn at w (step.Handle node from) = handle w at node from (link w from node)
+turn at w (step.Post node) = post w node (outbox w node)
+turn at w (step.Stop node) = stop w node

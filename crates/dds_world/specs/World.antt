@@ -1,14 +1,19 @@
-use Rattle.std.specs.Prelude.{ℕ, ◌+◌, ◌-◌, List, [], ◌∷◌, ◌++◌, length, nat_lt, replicate, slice_index_or, slice_set, if◌then◌else◌, zero, suc, refl}
+-- The cluster before its first step, and its outboxes and links.
+use Rattle.std.specs.Prelude.{ℕ, ◌+◌, ◌-◌, ◌%◌, ◌==◌, ◌&&◌, ◌||◌, Bool, true, false, not, List, [], ◌∷◌, ◌++◌, Option, Some, None, length, filter, nat_lt, nat_le, replicate, slice_get, slice_index_or, slice_set, if◌then◌else◌, zero, suc, refl}
 use Rattle.std.specs.FinMap.{empty}
 use Rattle.std.specs.Coded.{Coded, code_by, coded×, coded_ℕ, coded_list}
-use Rattle.dds_base.specs.declared.number.NodeNo.{NodeNo}
+use Rattle.dds_base.specs.BrickList.{has}
+use Rattle.dds_base.specs.NodeSet.{no_nodes}
 use Rattle.dds_base.specs.declared.leaf.Leaf.{Leaf}
+use Rattle.dds_base.specs.declared.number.NodeNo.{NodeNo}
 use Rattle.dds_letters.specs.declared.letter.Letter.{Letter}
-use Rattle.dds_first_core.specs.declared.state.BrickState.{BrickState}
-use Rattle.dds_first_core.specs.declared.state.LibraryState.{LibraryState}
-use Rattle.dds_first_core.specs.contracts.state.BrickState as brick
-use Rattle.dds_first_core.specs.contracts.state.LibraryState as library
-use Rattle.dds_script.specs.declared.opening.Opening.{Opening}
+use Rattle.dds_maps.specs.Judge.{put_all}
+use Rattle.dds_script.specs.Opening.{OpeningOf}
+use Rattle.dds_states.specs.declared.brick_state.BrickState.{BrickState}
+use Rattle.dds_states.specs.declared.library_state.LibraryState.{LibraryState}
+use Rattle.dds_states.specs.contracts.brick_state.BrickState as brick
+use Rattle.dds_states.specs.contracts.library_state.LibraryState as library
+use Rattle.dds_states.specs.Turn.{numbers_from}
 use Rattle.dds_world.specs.declared.step.Message.{Message}
 use Rattle.dds_world.specs.contracts.step.Message as message
 
@@ -55,23 +60,46 @@ abbrev pub send : World → ℕ → List (NodeNo × Letter) → World
 send w at ls =
     record w { outboxes = slice_set w.outboxes at (slice_index_or w.outboxes at [] ++ numbered w.made ls); made = w.made + length ls }
 
-abbrev pub new_bricks : ℕ → ℕ → List BrickState
-new_bricks zero n = []
-new_bricks (suc k) n = record { number = n; pairs = empty; pending = [] } ∷ new_bricks k (n + 1)
+-- the brick of this node number
+abbrev pub brick_at : World → ℕ → Option BrickState
+brick_at w node = if nat_lt node 64 then slice_get w.bricks node else None
 
-abbrev pub new_libraries : Leaf → ℕ → ℕ → List LibraryState
-new_libraries leaf zero n = []
-new_libraries leaf (suc k) n = record { number = 64 + n; leaf = leaf; next = 0; calls = [] } ∷ new_libraries leaf k (n + 1)
+-- the library of this node number
+abbrev pub library_at : World → ℕ → Option LibraryState
+library_at w node = if nat_lt node 64 then None else slice_get w.libraries (node - 64)
 
--- a cluster of one leaf before its first step
-abbrev pub new_world : ℕ → ℕ → Leaf → World
-new_world bricks libraries leaf =
-    record { bricks = new_bricks bricks 0; libraries = new_libraries leaf libraries 0; outboxes = replicate (bricks + libraries) []; links = replicate (bricks + libraries) (replicate (bricks + libraries) []); made = 0 }
+-- the node is one of the cluster
+abbrev pub is_node : World → ℕ → Bool
+is_node w node = if nat_lt node 64 then nat_lt node (length w.bricks) else nat_lt (node - 64) (length w.libraries)
 
-abbrev pub opened_with : Opening → List Leaf → World
-opened_with o [] = record { bricks = []; libraries = []; outboxes = []; links = []; made = 0 }
-opened_with o (leaf ∷ leaves) = new_world o.bricks o.libraries leaf
+-- all nodes: bricks by number, then libraries
+abbrev pub all_nodes : World → List NodeNo
+all_nodes w = numbers_from (length w.bricks) 0 ++ numbers_from (length w.libraries) 64
 
--- the cluster before its first step
-abbrev pub opening_world : Opening → World
-opening_world o = opened_with o o.leaves
+-- a brick that has stopped keeps its number alone
+abbrev pub emptied : ℕ → BrickState
+emptied n =
+    record { number = n; stopped = true; known = no_nodes; leaves = empty; pairs = empty; locks = record { pending = []; leases = []; outcomes = empty }; deferred = []; resolving = []; order = None; orders = 0; made = 0 }
+
+-- a brick opens with the opening leaves that list it, and no pairs
+abbrev pub new_brick : List Leaf → ℕ → BrickState
+new_brick leaves n =
+    record (emptied n) { stopped = false; leaves = put_all empty (filter (λ l. has l.list n) leaves) }
+
+abbrev pub new_bricks : List Leaf → ℕ → ℕ → List BrickState
+new_bricks leaves zero n = []
+new_bricks leaves (suc k) n = new_brick leaves n ∷ new_bricks leaves k (n + 1)
+
+-- a library's map opens with the opening leaves, and then the library's own stale leaves are put into it in order
+abbrev pub new_library : OpeningOf → ℕ → LibraryState
+new_library o n =
+    record { number = 64 + n; stopped = false; known = no_nodes; bricks = o.bricks; map = put_all (put_all empty o.leaves) (filter (λ l. l.stamp.maker == 64 + n) o.old); next = 0; calls = [] }
+
+abbrev pub new_libraries : OpeningOf → ℕ → ℕ → List LibraryState
+new_libraries o zero n = []
+new_libraries o (suc k) n = new_library o n ∷ new_libraries o k (n + 1)
+
+-- the cluster before its first step: no letter was made
+abbrev pub opening_world : OpeningOf → World
+opening_world o =
+    record { bricks = new_bricks o.leaves o.bricks 0; libraries = new_libraries o o.libraries 0; outboxes = replicate (o.bricks + o.libraries) []; links = replicate (o.bricks + o.libraries) (replicate (o.bricks + o.libraries) []); made = 0 }

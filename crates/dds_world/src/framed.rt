@@ -49,6 +49,13 @@ impl Framed {
         })
     }
 
+    /// The number of the message's letter.
+    pub fn number(&self) -> u64
+        ensures { result ≡ self.now.number }
+    {
+        self.number
+    }
+
     /// Reads the frame's letter.
     pub fn message(self, alloc: Global) -> Result<Message, Memory>
         ensures { IfOk result (λ message. message ≡ self) }

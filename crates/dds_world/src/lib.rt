@@ -1,9 +1,15 @@
-//! The cluster as one value: nodes, outboxes and links, its steps, and what a list of steps gives.
+//! The cluster as a value: its worlds, its steps, and its runs with their histories.
 #![tactic(auto)]
 
 pub mod cluster;
 pub mod framed;
 pub mod links;
-pub mod opening_cluster;
+pub mod opening_world;
+pub mod points;
+pub mod possible;
 pub mod queue;
+pub mod run;
+pub mod runs;
 pub mod step;
+pub mod stopping;
+pub mod trace;

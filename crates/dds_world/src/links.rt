@@ -1,6 +1,6 @@
 //! The links from one node to all nodes, by the receivers' places. They hold frames.
 
-ghost use Rattle.std.specs.Prelude.{◌≡◌, ◌==◌, ◌++◌, [], ◌∷◌, length, drop, replicate, slice_get, slice_set, slice_index_or, IfOk, OnOk, OnErr, IfNone};
+ghost use Rattle.std.specs.Prelude.{◌≡◌, ◌++◌, [], ◌∷◌, drop, replicate, slice_get, slice_set, slice_index_or, option_copied, length, IfOk, OnOk};
 
 use crate::framed::Framed;
 use crate::queue::Queue;
@@ -50,6 +50,24 @@ impl Links {
     {
         if place < self.queues.len() {
             self.queues[place].pop()
+        } else {
+            None
+        }
+    }
+
+    /// How many nodes there are.
+    pub fn len(&self) -> usize
+        ensures { result ≡ length self.now }
+    {
+        self.queues.len()
+    }
+
+    /// The first message for a place, which stays.
+    pub fn first(&self, place: usize) -> Option<&Framed>
+        ensures { option_copied result ≡ slice_get (slice_index_or self.now place []) 0 }
+    {
+        if place < self.queues.len() {
+            self.queues[place].at(0)
         } else {
             None
         }

@@ -1,6 +1,6 @@
 //! First in, first out. Contracts see the list of what waits.
 
-ghost use Rattle.std.specs.Prelude.{◌≡◌, ◌==◌, ◌++◌, [], ◌∷◌, length, drop, slice_get, OnOk, OnErr};
+ghost use Rattle.std.specs.Prelude.{◌≡◌, ◌==◌, ◌++◌, [], ◌∷◌, length, drop, slice_get, option_copied, OnOk, OnErr};
 
 use dds_base::memory::Memory;
 use std::alloc::Global;
@@ -45,6 +45,20 @@ impl<T: Drop> Queue<T> {
         ensures rest { self.new ≡ drop 1 self.old }
     {
         self.waiting.pop_front()
+    }
+
+    /// The item at a place from the first one; `None` exactly where there are fewer.
+    pub fn at(&self, place: usize) -> Option<&T>
+        ensures { option_copied result ≡ slice_get self.now place }
+    {
+        self.waiting.get(place)
+    }
+
+    /// How many items wait.
+    pub fn len(&self) -> usize
+        ensures { result ≡ length self.now }
+    {
+        self.waiting.len()
     }
 
     pub fn is_empty(&self) -> bool

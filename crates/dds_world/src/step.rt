@@ -2,10 +2,10 @@
 
 use dds_base::items::Items;
 use dds_base::number::{CallNo, CallerNo, NodeNo};
-use dds_base::op::Op;
+use dds_base::op::{Op, Order};
 use dds_letters::letter::Letter;
 
-/// The most events of a `quiet` line.
+/// The most events of a `quiet` or `events` line.
 pub const EVENTS: u64 = 1_000_000;
 
 /// What comes to a node from outside.
@@ -16,15 +16,18 @@ pub enum Input {
         call: CallNo,
         op: Op,
     },
+    Order(Order),
 }
 
-/// One event. `Input` gives a node a call; `Handle` takes the first letter of the link from `from` to the node; `Post`
-/// moves the first letter of the node's outbox to its link.
+/// One event. `Input` gives a node a call or an order; `Handle` takes the first letter of the link from `from` to the
+/// node; `Post` moves the first letter of the node's outbox to its link; `Stop` stops the node, of which its notices,
+/// the last letters on its links, tell the others.
 #[derive(Debug, Drop)]
 pub enum Step {
     Input { node: NodeNo, input: Input },
     Handle { node: NodeNo, from: NodeNo },
     Post { node: NodeNo },
+    Stop { node: NodeNo },
 }
 
 /// Steps in their order.

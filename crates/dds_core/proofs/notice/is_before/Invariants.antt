@@ -1,6 +1,6 @@
 use Rattle.std.proofs.Common.{◌≡◌, drop}
 use Rattle.dds_base.specs.BrickList.{has}
-use Rattle.dds_core.specs.Resolution.{before}
+use Rattle.dds_brick_rows.specs.Resolution.{before}
 use Rattle.dds_core.proofs.notice.is_before.Given as goal
 
 abbrev pub invariant-loop-member : goal.invariant-loop-member

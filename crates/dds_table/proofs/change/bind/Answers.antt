@@ -1,5 +1,6 @@
 use Rattle.std.proofs.Common.{sym, arith}
 use Rattle.dds_table.proofs.Changing.{changed-twice, was-none, was-some, none-new}
+use Rattle.dds_table.proofs.Knowing.{none-known, some-known, put-again}
 use Rattle.dds_table.proofs.change.bind.Goals as goal
 
 pub add_pair-requires-clause-new : goal.add_pair-requires-clause-new
@@ -20,3 +21,12 @@ returns-in_ok-add_pair-in-Some-clause-told g c = λ a is t room.
 
 pub returns-in_ok-add_pair-in-Some-clause-was : goal.returns-in_ok-add_pair-in-Some-clause-was
 returns-in_ok-add_pair-in-Some-clause-was g c = λ a is t. was-some a c.args.table.now c.chain.result.now c.args.key c.in-Some.place c.requires.index t c.chain.ensures (sym c.in-Some.ensures.value)
+
+pub returns-in_ok-add_pair-in-None-clause-known : goal.returns-in_ok-add_pair-in-None-clause-known
+returns-in_ok-add_pair-in-None-clause-known g c = none-known c.args.table.now c.chain.result.now c.args.key c.chain.ensures (sym c.in-None.ensures.value)
+
+pub returns-in_ok-add_pair-in-Some-clause-known : goal.returns-in_ok-add_pair-in-Some-clause-known
+returns-in_ok-add_pair-in-Some-clause-known g c = some-known c.args.table.now c.chain.result.now c.args.key c.in-Some.place c.chain.ensures (sym c.in-Some.ensures.value)
+
+pub returns-in_ok-add_pair-in-Some-clause-keys : goal.returns-in_ok-add_pair-in-Some-clause-keys
+returns-in_ok-add_pair-in-Some-clause-keys g c = put-again c.args.table.now c.remove_pair.new.table c.add_pair-in-Some.new.table c.args.key c.in_ok-remove_pair-in-Some.ensures.keys c.in_ok-add_pair-in-Some.ensures.keys

@@ -3,6 +3,7 @@ use Rattle.dds_table.specs.Index.{first_page}
 use Rattle.dds_table.proofs.Chains.{stored-page, first-page-small}
 use Rattle.dds_table.proofs.Slots.{stored-at}
 use Rattle.dds_table.proofs.Removing.{bridge-first, bridge-later, after-is}
+use Rattle.dds_table.proofs.Refusing.{chain-silent}
 use Rattle.dds_table.proofs.removal.bridge.Goals as goal
 
 pub returns-then-place-eq0-clause-told : goal.returns-then-place-eq0-clause-told
@@ -23,3 +24,6 @@ returns-in-Err-clause-lawful g c = λ a is h.
     let s = stored-at a c.args.slots.now (c.args.place - 1) c.index-slots-place.result h (omega (arith, c.requires.within)) c.index-slots-place.is in
     let small = first-page-small a (drop (suc (c.args.place - 1)) c.args.slots.now) s.1 in
     c.in-Err.ensures.lawful a _ is (stored-page a c.index-slots-place.result next s.0 small)
+
+pub returns-in-Err-clause-refused : goal.returns-in-Err-clause-refused
+returns-in-Err-clause-refused g c = chain-silent _ c.args.slots.now (c.args.place - 1) c.index-slots-place.result c.in-Err.fault (omega (arith, c.requires.within)) c.index-slots-place.is c.in-Err.ensures.refused

@@ -6,6 +6,7 @@ use Rattle.dds_table.specs.declared.table.Slot.{Slot}
 use Rattle.dds_table.proofs.Uses.{bucket-within}
 use Rattle.dds_table.proofs.Adding.{then-ok, ok-of, moved}
 use Rattle.dds_table.proofs.Removing.{index-out, number-out, pair-removed, less-out, gone-out}
+use Rattle.dds_table.proofs.Knowing.{has-removed}
 use Rattle.dds_table.proofs.removal.remove_pair.Goals as goal
 
 pub returns-clause-index : goal.returns-clause-index
@@ -33,3 +34,6 @@ returns-clause-less g c = λ a is t. ok-of c.write_root.result (less-out a c.arg
 
 pub returns-clause-gone : goal.returns-clause-gone
 returns-clause-gone g c = ok-of c.write_root.result (gone-out c.args.table.now c.unlink-slot.new.self c.args.key c.args.place c.requires.index c.requires.there c.unlink-slot.ensures.buckets)
+
+pub returns-clause-keys : goal.returns-clause-keys
+returns-clause-keys g c = ok-of c.write_root.result (has-removed c.args.table.now c.unlink-slot.new.self c.args.key c.args.place c.requires.index c.requires.there c.unlink-slot.ensures.buckets)

@@ -9,7 +9,7 @@ use Rattle.dds_table.proofs.store.Store.len.Goals as goal
 
 pub returns-clause-told : goal.returns-clause-told
 returns-clause-told g c = λ a is.
-    let s = unless-false c.self.inside.failed _ (ap (λ s. s.failed) c.self.view_is ∙ c.requires.live) c.self.invariant in
+    let s = unless-false c.self.inside.failed _ (ap (λ s. s.failed) c.self.view_is ∙ c.requires.live) c.self.invariant.0 in
     let told : g.D.Disk.pages c.self.inside.space.cache.disk ≡ Some a = ap (λ s. g.D.Disk.pages s.cache.disk) c.self.view_is ∙ is in
     let l = ap length c.as_slice.ensures.value in
     let below : c.place_in-place.result < length c.self.inside.tables.items = omega (arith, l, c.place_in-place.ensures.within) in
@@ -20,6 +20,6 @@ returns-clause-told g c = λ a is.
 
 pub returns-clause-most : goal.returns-clause-most
 returns-clause-most g c =
-    let s = unless-false c.self.inside.failed _ (ap (λ s. s.failed) c.self.view_is ∙ c.requires.live) c.self.invariant in
+    let s = unless-false c.self.inside.failed _ (ap (λ s. s.failed) c.self.view_is ∙ c.requires.live) c.self.invariant.0 in
     let l = ap length c.as_slice.ensures.value in
     (index-at c.self.inside.tables.items c.place_in-place.result c.index-table.result.now s.index (omega (arith, l, c.place_in-place.ensures.within)) c.index-table.ensures).few

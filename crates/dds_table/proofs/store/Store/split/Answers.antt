@@ -5,6 +5,7 @@ use Rattle.dds_table.specs.Store.{names}
 use Rattle.dds_table.proofs.Stores.{told-back}
 use Rattle.dds_table.proofs.NamedMaps.{names-without, there-still, there-low, there-high}
 use Rattle.dds_table.proofs.Splits.{holds-split}
+use Rattle.dds_table.proofs.Parted.{parted}
 use Rattle.dds_table.proofs.Turns.{names-two, moves-start, moves-room, moves-turn}
 use Rattle.dds_table.proofs.store.Store.split.Goals as goal
 
@@ -65,3 +66,15 @@ returns-clause-told g c = λ a is.
 pub returns-clause-names : goal.returns-clause-names
 returns-clause-names g c =
     rw c.drop_table.ensures (names-without c.args.self.now.tables c.turns.self.tables c.args.name (low_half c.args.name ∷ high_half c.args.name ∷ []) c.turns.invariant.names c.requires.there)
+
+pub returns-clause-parted : goal.returns-clause-parted
+returns-clause-parted g c = λ a is. parted _ c.args.name (c.keys_are_covered.ensures a is)
+
+pub returns-in_err-add-clause-parted : goal.returns-in_err-add-clause-parted
+returns-in_err-add-clause-parted g c = λ a is. parted _ c.args.name (c.keys_are_covered.ensures a is)
+
+pub returns-in_err-add-2-clause-parted : goal.returns-in_err-add-2-clause-parted
+returns-in_err-add-2-clause-parted g c = λ a is. parted _ c.args.name (c.keys_are_covered.ensures a is)
+
+pub returns-in_err-move_first-clause-parted : goal.returns-in_err-move_first-clause-parted
+returns-in_err-move_first-clause-parted g c = λ a is. parted _ c.args.name (c.keys_are_covered.ensures a is)

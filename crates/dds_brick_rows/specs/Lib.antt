@@ -1,0 +1,4 @@
+pub mod Refusal
+pub mod Calls
+pub mod Take
+pub mod Resolution

@@ -1,0 +1,296 @@
+//! How bricks resolve a transaction whose library stopped.
+
+ghost use Rattle.std.specs.Prelude.{◌≡◌, ◌==◌, ◌&&◌, ◌||◌, [], ◌∷◌, ◌++◌, IfOk, OnOk, Some, None, OnSome, IfSome, IfNone, ◌<◌, length, not, position, find};
+ghost use Rattle.dds_locks.specs.First.{without_first};
+ghost use Rattle.std.specs.List.{list_all, list_any};
+ghost use Rattle.dds_base.specs.NodeSet.{has_node};
+ghost use Rattle.dds_locks.specs.Status.{status};
+ghost use Rattle.dds_letters.specs.declared.letter.Letter.TheVariants as letter;
+ghost use Rattle.dds_states.specs.Turn.{to_each, unknown_others, both, letters_out};
+ghost use Rattle.dds_brick_rows.specs.Calls.{dropped};
+ghost use Rattle.dds_brick_rows.specs.Resolution.{before, is_ready, is_commit, is_no, heard, unwaited, settled, outcome_row, verdict, decides, resolves_on, started, resolve, is_of, is_resolved, defers, help_row, query_row, waiting_for, status_heard, status_row};
+
+use crate::calls::apply;
+use dds_base::brick_list::BrickList;
+use dds_base::items::Items;
+use dds_base::memory::Memory;
+use dds_base::node_set::NodeSet;
+use dds_base::number::{NodeNo, TxnNo};
+use dds_base::pending::TxnStatus;
+use dds_letters::letter::Letter;
+use dds_states::brick_state::{BrickState, Deferred, Question, Resolving};
+use dds_states::nodes::{has, members, to_each, unknown_others, without};
+use dds_states::turn::CoreTurn;
+use std::alloc::Global;
+
+/// Whether all members before one are known to have stopped.
+fn all_before(known: &NodeSet, list: &[NodeNo], member: NodeNo) -> bool
+    ensures { result ≡ list_all (λ n. has_node known.now n) (before list.now member) }
+{
+    for other in list {
+        if *other == member {
+            return true;
+        }
+        if !known.has(*other) {
+            return false;
+        }
+    }
+    true
+}
+
+/// Whether a transaction is ready for a member: its library and all members before that one are known to have stopped.
+fn is_ready(
+    alloc: Global,
+    known: &NodeSet,
+    txn: TxnNo,
+    list: &BrickList,
+    member: NodeNo,
+) -> Result<bool, Memory>
+    ensures { IfOk result (λ ready. ready ≡ is_ready known.now txn list.now member) }
+{
+    let list = members(alloc, list)?;
+    Ok(known.has(txn.library()) && all_before(known, list.as_slice(), member))
+}
+
+fn is_commit(status: TxnStatus) -> bool
+    ensures { result ≡ is_commit status }
+{
+    matches!(status, TxnStatus::Committed)
+}
+
+fn is_no(status: TxnStatus) -> bool
+    ensures { result ≡ is_no status }
+{
+    matches!(status, TxnStatus::NotPrepared | TxnStatus::Aborted)
+}
+
+/// The resolving with a status more.
+fn hear(mut resolving: Resolving, status: TxnStatus) -> Resolving
+    ensures { result ≡ heard resolving status }
+{
+    resolving.saw_commit = resolving.saw_commit || is_commit(status);
+    resolving.saw_no = resolving.saw_no || is_no(status);
+    resolving
+}
+
+/// The resolving that doesn't wait for a node any more.
+pub fn unwait(alloc: Global, mut resolving: Resolving, node: NodeNo) -> Result<Resolving, Memory>
+    ensures { IfOk result (λ r. r ≡ unwaited resolving node) }
+{
+    resolving.waiting = without(alloc, resolving.waiting.as_slice(), node)?;
+    Ok(resolving)
+}
+
+/// Applies or aborts the transaction where it is pending.
+pub fn outcome(
+    alloc: Global,
+    state: &mut BrickState,
+    txn: TxnNo,
+    commit: bool,
+) -> Result<CoreTurn, Memory>
+    ensures state { OnOk result (state.new ≡ (outcome_row state.old txn commit).state) }
+    ensures out { IfOk result (λ turn. turn ≡ (outcome_row state.old txn commit).out) }
+{
+    let Some(pending) = state.locks.unlock(txn) else {
+        return Ok(CoreTurn::new(alloc));
+    };
+    if commit {
+        return apply(alloc, state, &pending);
+    }
+    state.locks.note(pending.txn, false)?;
+    Ok(CoreTurn::new(alloc))
+}
+
+/// The outcome of a resolving that has heard all.
+fn verdict(resolving: &Resolving) -> bool
+    ensures { result ≡ verdict resolving.now }
+{
+    resolving.saw_commit || !resolving.saw_no
+}
+
+/// Does what an outcome does, and tells the other members.
+fn decide(alloc: Global, state: &mut BrickState, resolving: &Resolving) -> Result<CoreTurn, Memory>
+    ensures state { OnOk result (state.new ≡ (decides state.old resolving.now).state) }
+    ensures out { IfOk result (λ turn. turn ≡ (decides state.old resolving.now).out) }
+{
+    let commit = verdict(resolving);
+    let turn = outcome(alloc, state, resolving.txn, commit)?;
+    let others = unknown_others(alloc, &resolving.list, state.number, &state.known)?;
+    let told = Letter::Outcome {
+        txn: resolving.txn,
+        commit,
+    };
+    let letters = to_each(alloc, others.as_slice(), &told)?;
+    turn.with(CoreTurn::letters(alloc, letters))
+}
+
+/// Goes on with a resolving that isn't in the state's list: decides where no member is waited for, and keeps it else.
+pub fn resolve_on(
+    alloc: Global,
+    state: &mut BrickState,
+    resolving: Resolving,
+) -> Result<CoreTurn, Memory>
+    ensures state { OnOk result (state.new ≡ (resolves_on state.old resolving).state) }
+    ensures out { IfOk result (λ turn. turn ≡ (resolves_on state.old resolving).out) }
+{
+    if resolving.waiting.is_empty() {
+        return decide(alloc, state, &resolving);
+    }
+    state.resolving.push(resolving)?;
+    Ok(CoreTurn::new(alloc))
+}
+
+/// A new resolving, which has heard this brick's own status.
+fn start(
+    alloc: Global,
+    state: &BrickState,
+    txn: TxnNo,
+    list: &BrickList,
+) -> Result<Resolving, Memory>
+    ensures { IfOk result (λ r. r ≡ started state.now txn list.now) }
+{
+    let waiting = unknown_others(alloc, list, state.number, &state.known)?;
+    let resolving = Resolving {
+        txn,
+        list: *list,
+        waiting,
+        saw_commit: false,
+        saw_no: false,
+    };
+    Ok(hear(resolving, state.locks.status(txn)))
+}
+
+fn ask_others(
+    alloc: Global,
+    state: &BrickState,
+    txn: TxnNo,
+    list: &BrickList,
+) -> Result<CoreTurn, Memory>
+    ensures { IfOk result
+        (λ turn. turn
+        ≡ letters_out (to_each (unknown_others list.now state.now.number state.now.known) (letter.Query txn list.now))) }
+{
+    let others = unknown_others(alloc, list, state.number, &state.known)?;
+    let query = Letter::Query { txn, list: *list };
+    Ok(CoreTurn::letters(alloc, to_each(alloc, others.as_slice(), &query)?))
+}
+
+/// Starts resolving: asks every other member how far it is.
+pub fn resolve(
+    alloc: Global,
+    state: &mut BrickState,
+    txn: TxnNo,
+    list: &BrickList,
+) -> Result<CoreTurn, Memory>
+    ensures state { OnOk result (state.new ≡ (resolve state.old txn list.now).state) }
+    ensures out { IfOk result (λ turn. turn ≡ (resolve state.old txn list.now).out) }
+{
+    let asked = ask_others(alloc, state, txn, list)?;
+    let resolving = start(alloc, state, txn, list)?;
+    let next = resolve_on(alloc, state, resolving)?;
+    asked.with(next)
+}
+
+/// Whether the transaction is being resolved here.
+pub fn is_resolved(state: &BrickState, txn: TxnNo) -> bool
+    ensures { result ≡ is_resolved state.now txn }
+{
+    state.resolving.as_slice().iter().any(|r| r.txn == txn)
+}
+
+fn defer(
+    state: &mut BrickState,
+    from: NodeNo,
+    question: Question,
+    txn: TxnNo,
+    list: &BrickList,
+) -> Result<(), Memory>
+    ensures { OnOk result (state.new ≡ (defers state.old from question txn list.now).state) }
+{
+    state.deferred.push(Deferred {
+        from,
+        question,
+        txn,
+        list: *list,
+    })
+}
+
+/// Resolves the transaction, unless that is being done here; or defers it while this brick can't be the resolver.
+pub fn help(
+    alloc: Global,
+    state: &mut BrickState,
+    from: NodeNo,
+    txn: TxnNo,
+    list: &BrickList,
+) -> Result<CoreTurn, Memory>
+    ensures state { OnOk result (state.new ≡ (help_row state.old from txn list.now).state) }
+    ensures out { IfOk result (λ turn. turn ≡ (help_row state.old from txn list.now).out) }
+{
+    if !is_ready(alloc, &state.known, txn, list, state.number)? {
+        defer(state, from, Question::Help, txn, list)?;
+        return Ok(CoreTurn::new(alloc));
+    }
+    if is_resolved(state, txn) {
+        return Ok(CoreTurn::new(alloc));
+    }
+    resolve(alloc, state, txn, list)
+}
+
+/// Tells the status; or defers it while the sender can't be the resolver.
+pub fn query(
+    alloc: Global,
+    state: &mut BrickState,
+    from: NodeNo,
+    txn: TxnNo,
+    list: &BrickList,
+) -> Result<CoreTurn, Memory>
+    ensures state { OnOk result (state.new ≡ (query_row state.old from txn list.now).state) }
+    ensures out { IfOk result (λ turn. turn ≡ (query_row state.old from txn list.now).out) }
+{
+    if !is_ready(alloc, &state.known, txn, list, from)? {
+        defer(state, from, Question::Query, txn, list)?;
+        return Ok(CoreTurn::new(alloc));
+    }
+    let status = state.locks.status(txn);
+    CoreTurn::letter(alloc, from, Letter::Status { txn, status })
+}
+
+fn place_of(resolving: &[Resolving], txn: TxnNo) -> Option<usize>
+    ensures value { result ≡ position (is_of txn) resolving.now }
+    ensures within { IfSome result (λ place. place < length resolving.now) }
+{
+    resolving.iter().position(|r| r.txn == txn)
+}
+
+/// Takes the resolving of a transaction out of the list, where it waits for this member.
+fn take_resolving(list: &mut Items<Resolving>, from: NodeNo, txn: TxnNo) -> Option<Resolving>
+    ensures value { result ≡ waiting_for from (find (is_of txn) list.old) }
+    ensures some { OnSome result (list.new ≡ without_first (is_of txn) list.old) }
+    ensures none { IfNone result (list.new ≡ list.old) }
+{
+    let Some(place) = place_of(list.as_slice(), txn) else {
+        return None;
+    };
+    if !has(list.at(place).waiting.as_slice(), from) {
+        return None;
+    }
+    Some(list.remove(place))
+}
+
+/// A member that is waited for tells how far it is.
+pub fn status(
+    alloc: Global,
+    state: &mut BrickState,
+    from: NodeNo,
+    txn: TxnNo,
+    status: TxnStatus,
+) -> Result<CoreTurn, Memory>
+    ensures state { OnOk result (state.new ≡ (status_row state.old from txn status).state) }
+    ensures out { IfOk result (λ turn. turn ≡ (status_row state.old from txn status).out) }
+{
+    let Some(resolving) = take_resolving(&mut state.resolving, from, txn) else {
+        return Ok(CoreTurn::new(alloc));
+    };
+    let resolving = unwait(alloc, hear(resolving, status), from)?;
+    resolve_on(alloc, state, resolving)
+}

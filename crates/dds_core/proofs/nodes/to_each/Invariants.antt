@@ -1,6 +1,0 @@
-use Rattle.std.proofs.Common.{◌≡◌, drop, ◌++◌}
-use Rattle.dds_core.specs.Turn.{to_each}
-use Rattle.dds_core.proofs.nodes.to_each.Given as goal
-
-abbrev pub invariant-loop-node : goal.invariant-loop-node
-invariant-loop-node l = l.outbox ++ to_each (drop l.node-index l.nodes) l.letter ≡ to_each l.nodes l.letter

@@ -1,6 +1,0 @@
-use Rattle.std.proofs.Common.{◌≡◌, drop, ◌++◌}
-use Rattle.dds_core.specs.Turn.{unknown}
-use Rattle.dds_core.proofs.nodes.unknown.Given as goal
-
-abbrev pub invariant-loop-node : goal.invariant-loop-node
-invariant-loop-node l = l.list ++ unknown (drop l.node-index l.nodes) l.known ≡ unknown l.nodes l.known

@@ -1,6 +1,0 @@
-use Rattle.std.proofs.Common.{◌≡◌, drop, ◌++◌}
-use Rattle.dds_core.specs.Turn.{without}
-use Rattle.dds_core.proofs.nodes.without.Given as goal
-
-abbrev pub invariant-loop-n : goal.invariant-loop-n
-invariant-loop-n l = l.list ++ without (drop l.n-index l.nodes) l.node ≡ without l.nodes l.node

@@ -1,3 +1,0 @@
-pub mod Turn
-pub mod Brick
-pub mod Library

@@ -1,0 +1,17 @@
+pub mod Turns
+pub mod BrickRows
+pub mod OrderRows
+pub mod Rows
+pub mod LibraryRows
+pub mod Places
+pub mod Channels
+pub mod Linked
+pub mod Handled
+pub mod Nodes
+pub mod Posted
+pub mod Taken
+pub mod Inputs
+pub mod Notices
+pub mod Stopping
+pub mod Runs
+pub mod Facts

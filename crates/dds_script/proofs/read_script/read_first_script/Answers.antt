@@ -1,0 +1,12 @@
+use Rattle.dds_script.proofs.FirstPath.{first-ok}
+use Rattle.dds_script.proofs.OneScript.{err-both, ok-one}
+use Rattle.dds_script.proofs.read_script.read_first_script.Goals as goal
+
+pub returns-clause-one : goal.returns-clause-one
+returns-clause-one c = ok-one _ _ _ c.read_by.ensures.script
+
+pub returns-clause-none : goal.returns-clause-none
+returns-clause-none c = err-both _ _ _ c.read_by.ensures.error
+
+pub returns-clause-opening : goal.returns-clause-opening
+returns-clause-opening c = first-ok _ _ c.read_by.ensures.script

@@ -1,3 +1,0 @@
-pub mod Driven
-pub mod Quiet
-pub mod Lines

@@ -1,7 +1,0 @@
-use Rattle.std.proofs.Common.{◌≡◌, drop}
-use Rattle.dds_table.specs.Store.{place_named, named}
-use Rattle.dds_table.proofs.Slots.{shifted}
-use Rattle.dds_table.proofs.store.find.Given as goal
-
-abbrev pub invariant-loop-place : goal.invariant-loop-place
-invariant-loop-place l = place_named (named l.tables) l.name ≡ shifted l.place (place_named (named (drop l.place l.tables)) l.name)

@@ -1,4 +1,0 @@
-use Rattle.dds_trie.proofs.trie.+leaf_within.Given as goal
-
-abbrev pub decreases-leaf_within : goal.decreases-leaf_within
-decreases-leaf_within l = l.depth

@@ -1,0 +1,3 @@
+pub mod Picking
+pub mod Walk
+pub mod Law
