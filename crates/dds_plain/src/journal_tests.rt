@@ -11,6 +11,7 @@ use dds_walk::reports::plain_steps;
 use dds_world::runs::{calls, history, is_run};
 use dds_world::step::{Journal, Step};
 use std::alloc::Global;
+use std::process::Abort;
 use std::test::Fail;
 
 fn script_of(alloc: Global, text: &str) -> Result<Script, Fail> {
@@ -73,57 +74,8 @@ fn calls_text(alloc: Global, script: &Script, journal: &Journal) -> Result<Vec<u
     Ok(text)
 }
 
-#[test]
-fn journals_are_runs_with_these_histories_and_calls(rt: HostRuntime) -> Result<(), Fail> {
-    let alloc = rt.alloc();
-    let examples = [
-        (
-            "cluster 1 1 1\nleaf 0/0 0\n0 put 5 6869\nquiet\n0 get 5\nquiet\n0 remove 5\nquiet\n0 get 5\nquiet\n",
-            "0.0 done new;0.1 value 6869;0.2 done old;0.3 absent;",
-            "0-8 0.0 done new;9-13 0.1 value 6869;14-22 0.2 done old;23-27 0.3 absent;",
-        ),
-        ("cluster 1 1 1\nleaf 0/0 0\n", "", ""),
-        (
-            "cluster 1 1 1\nleaf 0/0 0\n0 put 5 -\n0 get 5\nquiet\n0 get 5\nquiet\n0 get 6\nquiet\ntake b0 l0\n",
-            "0.0 done new;0.2 value -;0.3 absent;",
-            "0-8 0.0 done new;9-13 0.2 value -;14-18 0.3 absent;",
-        ),
-        (
-            "cluster 2 2 2\nleaf 0/0 0,1\n0 put 7 aa\n1 put 7 bb\nquiet\n",
-            "0.0 done new;",
-            "0-29 0.0 done new;1-33 1.0 again lock b0;",
-        ),
-        (
-            "cluster 2 2 2\nleaf 0/0 0,1\n0 put 7 aa\nevents 10\n1 get 7\npost l1\ntake b1 l1\nquiet\n",
-            "0.0 done new;",
-            "0-21 0.0 done new;11-19 1.0 again lock b1;",
-        ),
-        (
-            "cluster 2 3 5\nleaf 0/0 0,1\n0 put 7 aa\nevents 8\npost l0\ntake b0 l0\n4 get 7\npost l1\ntake b0 l1\npost b0\npost b0\ntake l1 b0\nstop b0\nstop l0\nquiet\n1 get 7\nquiet\n",
-            "0.0 done new;4.0 value aa;1.0 value aa;",
-            "0- open;11-16 4.0 value aa;36-40 1.0 value aa;",
-        ),
-        (
-            "cluster 2 2 2\nleaf 0/0 0,1\n1 put 7 11\nquiet\n0 put 7 22\npost l0\nstop l0\nquiet\n1 get 7\nquiet\n",
-            "1.0 done new;1.1 value 11;",
-            "0-16 1.0 done new;17- open;35-39 1.1 value 11;",
-        ),
-        (
-            "cluster 2 1 1\nleaf 0/0 0,1\n0 put 7 aa\nstop b1\nquiet\n",
-            "0.0 done new;",
-            "0-15 0.0 done new;",
-        ),
-        (
-            "cluster 1 1 1\nleaf 0/0 0\n0 put 7 aa\nevents 4\nstop b0\nquiet\n0 get 7\nquiet\n",
-            "",
-            "0-9 0.0 lost 0/0;10-10 0.1 again stopped b0;",
-        ),
-        (
-            "cluster 2 1 1\nleaf 0/0 0\n0 put 7 aa\nquiet\njoin b1 0/0 b0\nevents 2\n0 put 7 bb\nquiet\nstop b0\nquiet\n0 get 7\nquiet\n",
-            "0.0 done new;0.2 value aa;",
-            "0-8 0.0 done new;12-28 0.1 again lease b0;38-46 0.2 value aa;",
-        ),
-    ];
+/// Whether the journal of each script is a run, with these entries and these answers.
+fn all_have(rt: &impl Abort, alloc: Global, examples: &[(&str, &str, &str)]) -> Result<(), Fail> {
     for (text, entries, answers) in examples {
         let script = script_of(alloc, text)?;
         let journal = plain_steps(alloc, &script)?;
@@ -134,6 +86,72 @@ fn journals_are_runs_with_these_histories_and_calls(rt: HostRuntime) -> Result<(
         assert!(rt; said.as_slice() == answers.as_bytes(), "{said:?} of {text}");
     }
     Ok(())
+}
+
+#[test]
+fn journals_of_calls_have_these_histories_and_calls(rt: HostRuntime) -> Result<(), Fail> {
+    all_have(
+        &rt,
+        rt.alloc(),
+        &[
+            (
+                "cluster 1 1 1\nleaf 0/0 0\n0 put 5 6869\nquiet\n0 get 5\nquiet\n0 remove 5\nquiet\n0 get 5\nquiet\n",
+                "0.0 done new;0.1 value 6869;0.2 done old;0.3 absent;",
+                "0-8 0.0 done new;9-13 0.1 value 6869;14-22 0.2 done old;23-27 0.3 absent;",
+            ),
+            ("cluster 1 1 1\nleaf 0/0 0\n", "", ""),
+            (
+                "cluster 1 1 1\nleaf 0/0 0\n0 put 5 -\n0 get 5\nquiet\n0 get 5\nquiet\n0 get 6\nquiet\ntake b0 l0\n",
+                "0.0 done new;0.2 value -;0.3 absent;",
+                "0-8 0.0 done new;9-13 0.2 value -;14-18 0.3 absent;",
+            ),
+            (
+                "cluster 2 2 2\nleaf 0/0 0,1\n0 put 7 aa\n1 put 7 bb\nquiet\n",
+                "0.0 done new;",
+                "0-29 0.0 done new;1-33 1.0 again lock b0;",
+            ),
+            (
+                "cluster 2 2 2\nleaf 0/0 0,1\n0 put 7 aa\nevents 10\n1 get 7\npost l1\ntake b1 l1\nquiet\n",
+                "0.0 done new;",
+                "0-21 0.0 done new;11-19 1.0 again lock b1;",
+            ),
+        ],
+    )
+}
+
+#[test]
+fn journals_of_stops_and_joins_have_these_histories_and_calls(rt: HostRuntime) -> Result<(), Fail> {
+    all_have(
+        &rt,
+        rt.alloc(),
+        &[
+            (
+                "cluster 2 3 5\nleaf 0/0 0,1\n0 put 7 aa\nevents 8\npost l0\ntake b0 l0\n4 get 7\npost l1\ntake b0 l1\npost b0\npost b0\ntake l1 b0\nstop b0\nstop l0\nquiet\n1 get 7\nquiet\n",
+                "0.0 done new;4.0 value aa;1.0 value aa;",
+                "0- open;11-16 4.0 value aa;36-40 1.0 value aa;",
+            ),
+            (
+                "cluster 2 2 2\nleaf 0/0 0,1\n1 put 7 11\nquiet\n0 put 7 22\npost l0\nstop l0\nquiet\n1 get 7\nquiet\n",
+                "1.0 done new;1.1 value 11;",
+                "0-16 1.0 done new;17- open;35-39 1.1 value 11;",
+            ),
+            (
+                "cluster 2 1 1\nleaf 0/0 0,1\n0 put 7 aa\nstop b1\nquiet\n",
+                "0.0 done new;",
+                "0-15 0.0 done new;",
+            ),
+            (
+                "cluster 1 1 1\nleaf 0/0 0\n0 put 7 aa\nevents 4\nstop b0\nquiet\n0 get 7\nquiet\n",
+                "",
+                "0-9 0.0 lost 0/0;10-10 0.1 again stopped b0;",
+            ),
+            (
+                "cluster 2 1 1\nleaf 0/0 0\n0 put 7 aa\nquiet\njoin b1 0/0 b0\nevents 2\n0 put 7 bb\nquiet\nstop b0\nquiet\n0 get 7\nquiet\n",
+                "0.0 done new;0.2 value aa;",
+                "0-8 0.0 done new;12-28 0.1 again lease b0;38-46 0.2 value aa;",
+            ),
+        ],
+    )
 }
 
 #[test]

@@ -77,6 +77,8 @@ fn refuses_a_third_line(rt: HostRuntime) -> Result<(), Fail> {
         ("0  get 5\n", ScriptKind::Form),
         ("0\tget 5\n", ScriptKind::Form),
         ("0 get 5 \n", ScriptKind::Form),
+        ("0 get \n", ScriptKind::Form),
+        ("0 put 5 \n", ScriptKind::Form),
         (" 0 get 5\n", ScriptKind::Form),
         ("0 put 5\n", ScriptKind::Form),
         ("show l0\n", ScriptKind::Form),
@@ -91,7 +93,6 @@ fn refuses_a_third_line(rt: HostRuntime) -> Result<(), Fail> {
         ("0 put 5 0\n", ScriptKind::Value),
         ("0 put 5 AA\n", ScriptKind::Value),
         ("0 put 5 0g\n", ScriptKind::Value),
-        ("0 put 5 \n", ScriptKind::Value),
         ("0 swap 5 - abc\n", ScriptKind::Value),
         ("0 swap 5 -- aa\n", ScriptKind::Value),
         ("leaf 1/1 0\n", ScriptKind::Cover),
@@ -108,7 +109,6 @@ fn refuses_a_third_line(rt: HostRuntime) -> Result<(), Fail> {
 fn refuses_wrong_numbers(rt: HostRuntime) -> Result<(), Fail> {
     let lines = [
         "0 get 05\n",
-        "0 get \n",
         "0 get +5\n",
         "0 get 18446744073709551616\n",
         "1 get 5\n",
