@@ -4,6 +4,7 @@ use Rattle.std.specs.Prelude.{slice_get, slice_index_or, nat_lt, if◌then◌els
 use Rattle.std.proofs.lemmas.Bool.Decides.{nat_tests}
 use Rattle.dds_base.specs.NodeSet.{has_node}
 use Rattle.dds_base.specs.declared.number.NodeNo.{NodeNo}
+use Rattle.dds_letters.specs.declared.letter.Letter.{Letter}
 use Rattle.dds_letters.specs.declared.letter.Letter.TheVariants as letter
 use Rattle.dds_script.specs.Opening.{OpeningOf}
 use Rattle.dds_walk.proofs.Sizes.{IsSized}
@@ -73,8 +74,8 @@ noticed-if : (s k e : Bool) (c : List Message) (m : Message) → IsIn c m → is
 noticed-if true k e c m i n h = refl
 noticed-if false k e c m i n h = absurd (not-true (is_notice m.letter) (silent-at c i.at m h.0 i.is) n)
 
-travels-in : (b l : ℕ) (w : World) (from to : NodeNo) → IsSized b l w → (t : Travels w from to letter.Notice) → IsIn (channel w b (place w from) (place w to)) t.message
-travels-in b l w from to s t = elim t.place [
+pub travels-in : (b l : ℕ) (w : World) (from to : NodeNo) (x : Letter) → IsSized b l w → (t : Travels w from to x) → IsIn (channel w b (place w from) (place w to)) t.message
+travels-in b l w from to x s t = elim t.place [
   | inl h ↦ record { at = t.at; is = in-front (lane w (place w from) (place w to)) (sent b (place w to) (box w (place w from))) t.at t.message h }
   | inr h ↦ in-behind (lane w (place w from) (place w to)) (sent b (place w to) (box w (place w from))) t.message (in-sent b (place w to) (box w (place w from)) t.at t.message h.0 (ap (place_in b) h.1 ∙ sym (place-of b l w to s)))
 ]
@@ -83,7 +84,7 @@ pub notice-sent : (b l : ℕ) (w : World) (from to : NodeNo) → IsLinked b l w 
 notice-sent b l w from to g t =
     let i = place-below b l w from g.sized t.sender in
     let j = place-below b l w to g.sized t.receiver in
-    stopped-at b l w from g t.sender (noticed-if (status w b (place w from)).stopped (has_node (status w b (place w to)).known (node_of b (place w from))) (place w from == place w to) (channel w b (place w from) (place w to)) t.message (travels-in b l w from to g.sized t) (ap is_notice t.letter) (g.pairs (place w from) (place w to) i j))
+    stopped-at b l w from g t.sender (noticed-if (status w b (place w from)).stopped (has_node (status w b (place w to)).known (node_of b (place w from))) (place w from == place w to) (channel w b (place w from) (place w to)) t.message (travels-in b l w from to letter.Notice g.sized t) (ap is_notice t.letter) (g.pairs (place w from) (place w to) i j))
 
 -- who is known has stopped, and has nothing more on its way
 pub record IsGone (s : Bool) (c : List Message) : Type 0 where
@@ -119,7 +120,7 @@ knows-at b l w node other z (inr (s, here, k)) =
     let hn : node - 64 < l = omega (arith, inside, n) in
     record { at = b + (node - 64); inside = omega (arith, hn); place = place-of b l w node z ∙ library-place b node high; knows = ap (λ (y : Status). has_node y.known other) (library-old b node w s is) ∙ k }
 
-node-low : (b i : ℕ) → i < b → node_of b i ≡ i
+pub node-low : (b i : ℕ) → i < b → node_of b i ≡ i
 node-low b i h = let t : nat_lt i b ≡ true = grind (arith, nat_tests, h) in rw t refl
 
 node-high : (b i : ℕ) → b ≤ i → node_of b i ≡ 64 + (i - b)

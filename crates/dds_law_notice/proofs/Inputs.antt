@@ -23,6 +23,7 @@ use Rattle.dds_law_notice.proofs.LibraryRows.{input-tells}
 use Rattle.dds_law_notice.proofs.Linked.{IsLinked}
 use Rattle.dds_law_notice.proofs.Nodes.{brick-status, brick-turned, library-turned, silent-numbered}
 use Rattle.dds_law_notice.proofs.OrderRows.{order-tells}
+use Rattle.dds_law_notice.proofs.Turns.{no-stop, who}
 use Rattle.dds_law_notice.proofs.Taken.{library-old}
 
 -- An Input keeps the invariant: a node that stopped sends nothing.
@@ -48,7 +49,7 @@ order-keeps b l w n o None g e u = g
 order-keeps b l w n o (Some s) g e u =
     let is = brick-found w n s (nat_lt n 64) refl e in
     let t = brick_input s o in
-    let h = order-tells s o in
+    let h = no-stop (who s) t (order-tells {L = λ to l. ⊥} s o) in
     let z = g.sized.bricks in
     let inside = slice_get_within w.bricks n s is in
     let hn : n < b = omega (arith, inside, z) in

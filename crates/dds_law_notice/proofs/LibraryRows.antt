@@ -37,7 +37,7 @@ use Rattle.dds_states.specs.declared.library_state.OpenCall.{OpenCall}
 use Rattle.dds_states.specs.declared.library_state.Phase.{Phase}
 use Rattle.dds_states.specs.declared.library_state.Phase.TheVariants.{Getting, Preparing, Committing, Aborting, Asking}
 use Rattle.dds_states.specs.declared.library_state.Request.{Request}
-use Rattle.dds_law_notice.proofs.Turns.{NoNotices, is_notice, none-append, none-each}
+use Rattle.dds_law_notice.proofs.Turns.{NoNotices, is_notice, all-append, none-each}
 
 -- A library's turn tells of no stop, and at a notice the library knows the node that sent it.
 
@@ -223,7 +223,7 @@ notice_calls s y (txn ∷ txns) =
     let t = turns.at_attempt s y letter.Notice (Some txn) in
     let h = at_attempt s y letter.Notice (Some txn) in
     let g = notice_calls t.state y txns in
-    record { known = g.known ∙ h.known; stopped = g.stopped ∙ h.stopped; letters = none-append t.out.letters (turns.notice_calls t.state y txns).out.letters h.letters g.letters }
+    record { known = g.known ∙ h.known; stopped = g.stopped ∙ h.stopped; letters = all-append _ t.out.letters (turns.notice_calls t.state y txns).out.letters h.letters g.letters }
 
 abbrev pub library_known : LibraryState → NodeNo → Letter → NodeSet
 library_known s from l = if is_notice l then with_node s.known from else s.known

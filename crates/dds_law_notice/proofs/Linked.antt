@@ -44,7 +44,7 @@ pub record Turned (b l at : ℕ) (new : List Message) (st : Status) (w u : World
   pub turned : status u b at ≡ st
   pub others : (i : ℕ) → i < b + l → (i ≡ at → ⊥) → status u b i ≡ status w b i
 
-sent-more : (b j : ℕ) (l : List Message) (old new : List Message) → l ++ sent b j (old ++ new) ≡ (l ++ sent b j old) ++ sent b j new
+pub sent-more : (b j : ℕ) (l : List Message) (old new : List Message) → l ++ sent b j (old ++ new) ≡ (l ++ sent b j old) ++ sent b j new
 sent-more b j l old new = ap (λ t. l ++ t) (filter-append (λ m. place_in b m.to == j) old new) ∙ sym (append_assoc l (sent b j old) (sent b j new))
 
 -- the channel after a turn

@@ -36,7 +36,7 @@ pub lane-apart : (p q i j : ℕ) (w : World) (ms : List Message) → (i ≡ p �
 lane-apart p q i j w ms ne = ap (λ row. slice_index_or row j []) (get_or-set_other w.links p i _ [] ne)
 
 -- Post
-abbrev posted : World → ℕ → ℕ → Message → List Message → World
+abbrev pub posted : World → ℕ → ℕ → Message → List Message → World
 posted w p q m ms = with_lane (with_box w p ms) p q (lane w p q ++ m ∷ [])
 
 pub sent-here : (b q : ℕ) (m : Message) (ms : List Message) → place_in b m.to ≡ q → sent b q (m ∷ ms) ≡ m ∷ sent b q ms
@@ -67,7 +67,7 @@ posted-here b l p q j w m ms s u hp hj e is = elim (same-or-not j q) [
       ∙ ap (λ x. lane w p j ++ sent b j x) (sym is)
 ]
 
-posted-channel : (b l p q i j : ℕ) (w : World) (m : Message) (ms : List Message) → IsSized b l w → IsSized b l (with_box w p ms) → p < b + l → j < b + l → place_in b m.to ≡ q → box w p ≡ m ∷ ms → channel (posted w p q m ms) b i j ≡ channel w b i j
+pub posted-channel : (b l p q i j : ℕ) (w : World) (m : Message) (ms : List Message) → IsSized b l w → IsSized b l (with_box w p ms) → p < b + l → j < b + l → place_in b m.to ≡ q → box w p ≡ m ∷ ms → channel (posted w p q m ms) b i j ≡ channel w b i j
 posted-channel b l p q i j w m ms s u hp hj e is = elim (same-or-not i p) [
   | inl same ↦ subst (λ k. channel (posted w p q m ms) b k j ≡ channel w b k j) (sym same) (posted-here b l p q j w m ms s u hp hj e is)
   | inr other ↦ ap (λ x. x ++ sent b j (box (with_box w p ms) i)) (lane-apart p q i j (with_box w p ms) (lane w p q ++ m ∷ []) other) ∙ ap (λ x. lane w i j ++ sent b j x) (get_or-set_other w.outboxes p i ms [] other)

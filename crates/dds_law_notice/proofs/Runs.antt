@@ -22,11 +22,11 @@ use Rattle.dds_law_notice.proofs.Taken.{handle-keeps, post-keeps}
 
 -- The invariant holds along each run.
 
-both-left : (a b : Bool) → (a && b) ≡ true → a ≡ true
+pub both-left : (a b : Bool) → (a && b) ≡ true → a ≡ true
 both-left true b e = refl
 both-left false b e = e
 
-both-right : (a b : Bool) → (a && b) ≡ true → b ≡ true
+pub both-right : (a b : Bool) → (a && b) ≡ true → b ≡ true
 both-right true b e = e
 both-right false b e = absurd (cc)
 
@@ -38,10 +38,10 @@ turn-keeps b l t (step.Handle node from) few some g p u =
 turn-keeps b l t (step.Post node) few some g p u = post-keeps b l t.world node g (both-left (is_node t.world node) (has_first (outbox t.world node)) p) u
 turn-keeps b l t (step.Stop node) few some g p u = stop-keeps b l t.world node few g p u
 
-next-is : (t : Trace) (x : Step) → is_possible t x ≡ true → (next t x).world ≡ (turn t.steps t.world x).world
+pub next-is : (t : Trace) (x : Step) → is_possible t x ≡ true → (next t x).world ≡ (turn t.steps t.world x).world
 next-is t x p = ap (λ b. (if b then adds t x (turn t.steps t.world x) else record t { steps = t.steps + 1 }).world) p
 
-step-keeps : (b l : ℕ) (t : Trace) (x : Step) → b ≤ 64 → l ≤ 16 → IsLinked b l t.world → is_possible t x ≡ true → IsLinked b l (next t x).world
+pub step-keeps : (b l : ℕ) (t : Trace) (x : Step) → b ≤ 64 → l ≤ 16 → IsLinked b l t.world → is_possible t x ≡ true → IsLinked b l (next t x).world
 step-keeps b l t x few some g p =
     subst (IsLinked b l) (sym (next-is t x p)) (turn-keeps b l t x few some g p (subst (IsSized b l) (next-is t x p) (sized-next b l t x g.sized)))
 
@@ -86,7 +86,7 @@ nothing-on zero m i j = refl
 nothing-on (suc n) m zero j = nothing-there m j []
 nothing-on (suc n) m (suc i) j = nothing-on n m i j
 
-nothing-sent : (o : OpeningOf) (i j : ℕ) → channel (start o).world o.bricks i j ≡ []
+pub nothing-sent : (o : OpeningOf) (i j : ℕ) → channel (start o).world o.bricks i j ≡ []
 nothing-sent o i j =
     ap (λ x. x ++ sent o.bricks j (slice_index_or (replicate (o.bricks + o.libraries) []) i [])) (nothing-on (o.bricks + o.libraries) (o.bricks + o.libraries) i j) ∙ ap (sent o.bricks j) (nothing-there (o.bricks + o.libraries) i [])
 

@@ -119,7 +119,7 @@ pub none-known : (x : ℕ) → has_node no_nodes x ≡ true → ⊥
 none-known x h = not-true (has_node no_nodes x) (none-if x (nat_lt x 64)) h
 
 -- a brick stops
-brick-stops : (b l n : ℕ) (w : World) (s : BrickState) → b ≤ 64 → IsLinked b l w → n < b → n < 64 → slice_get w.bricks n ≡ Some s → s.stopped ≡ false → IsSized b l (stop_at w n (Some s)) → Stopped b l n (notices w.made (all_but b l n)) (brick_status (Some (emptied s.number))) w (stop_at w n (Some s))
+pub brick-stops : (b l n : ℕ) (w : World) (s : BrickState) → b ≤ 64 → IsLinked b l w → n < b → n < 64 → slice_get w.bricks n ≡ Some s → s.stopped ≡ false → IsSized b l (stop_at w n (Some s)) → Stopped b l n (notices w.made (all_but b l n)) (brick_status (Some (emptied s.number))) w (stop_at w n (Some s))
 brick-stops b l n w s few g hn low is live u =
     let v = record w { bricks = slice_set w.bricks n (emptied s.number) } in
     let z = g.sized in
@@ -145,7 +145,7 @@ brick-stops b l n w s few g hn low is live u =
     }
 
 -- a library stops
-library-stops : (b l n : ℕ) (w : World) (s : LibraryState) → b ≤ 64 → IsLinked b l w → 64 ≤ n → n - 64 < l → slice_get w.libraries (n - 64) ≡ Some s → s.stopped ≡ false → IsSized b l (stop_library w n (Some s)) → Stopped b l (b + (n - 64)) (notices w.made (all_but b l n)) (library_status (Some (record s { stopped = true }))) w (stop_library w n (Some s))
+pub library-stops : (b l n : ℕ) (w : World) (s : LibraryState) → b ≤ 64 → IsLinked b l w → 64 ≤ n → n - 64 < l → slice_get w.libraries (n - 64) ≡ Some s → s.stopped ≡ false → IsSized b l (stop_library w n (Some s)) → Stopped b l (b + (n - 64)) (notices w.made (all_but b l n)) (library_status (Some (record s { stopped = true }))) w (stop_library w n (Some s))
 library-stops b l n w s few g high hn is live u =
     let x = record s { stopped = true } in
     let v = record w { libraries = slice_set w.libraries (n - 64) x } in
@@ -173,7 +173,7 @@ library-stops b l n w s few g high hn is live u =
       told = λ j hj ne. one-notice b j w.made (all_but b l n) (but-other b l n j few (inr high) hj (λ e. ne (sym own ∙ e)));
     }
 
-not-not : (c : Bool) → not c ≡ true → c ≡ false
+pub not-not : (c : Bool) → not c ≡ true → c ≡ false
 not-not true e = cc
 not-not false e = refl
 

@@ -56,13 +56,13 @@ pub post-keeps : (b l : ℕ) (w : World) (node : NodeNo) → IsLinked b l w → 
 post-keeps b l w node g h u = post-list b l w node (outbox w node) g h refl u
 
 -- the turn over a link that lost its letter is one over the cluster as it was
-over : (b l at f n : ℕ) (new : List Message) (st : Status) (w u : World) (ms : List Message) → Turned b l at new st (with_lane w f n ms) u → Turned b l at new st w u
+pub over : (b l at f n : ℕ) (new : List Message) (st : Status) (w u : World) (ms : List Message) → Turned b l at new st (with_lane w f n ms) u → Turned b l at new st w u
 over b l at f n new st w u ms t = record { sized = t.sized; boxed = t.boxed; boxes = t.boxes; turned = t.turned; others = t.others }
 
-brick-popped : (f n : ℕ) (w : World) (m : Message) (ms : List Message) (t : BrickTurn) (made : List Made) → Popped f n m ms w (with_lane w f n ms) → Popped f n m ms w (brick_does (with_lane w f n ms) n t made).world
+pub brick-popped : (f n : ℕ) (w : World) (m : Message) (ms : List Message) (t : BrickTurn) (made : List Made) → Popped f n m ms w (with_lane w f n ms) → Popped f n m ms w (brick_does (with_lane w f n ms) n t made).world
 brick-popped f n w m ms t made p = record { was = p.was; now = p.now; lanes = p.lanes }
 
-library-popped : (f at n : ℕ) (w : World) (m : Message) (ms : List Message) (t : LibraryTurn) → Popped f at m ms w (with_lane w f at ms) → Popped f at m ms w (library_does (with_lane w f at ms) n t).world
+pub library-popped : (f at n : ℕ) (w : World) (m : Message) (ms : List Message) (t : LibraryTurn) → Popped f at m ms w (with_lane w f at ms) → Popped f at m ms w (library_does (with_lane w f at ms) n t).world
 library-popped f at n w m ms t p = record { was = p.was; now = p.now; lanes = p.lanes }
 
 -- a letter at a brick
@@ -93,10 +93,10 @@ brick-takes b l f n w s from m ms t made few some g hf hn is first sender laned 
 pub library-old : (b n : ℕ) (w : World) (s : LibraryState) → slice_get w.libraries (n - 64) ≡ Some s → status w b (b + (n - 64)) ≡ library_status (Some s)
 library-old b n w s is = let less : b + (n - 64) - b ≡ n - 64 = omega arith in library-status b (b + (n - 64)) w (omega arith) ∙ ap library_status (ap (λ k. slice_get w.libraries k) less ∙ is)
 
-over-at : (b l n f at : ℕ) (w : World) (ms : List Message) (t : LibraryTurn) → b + (n - 64) ≡ at → Turned b l (b + (n - 64)) (numbered w.made t.out.letters) (library_status (Some t.state)) (with_lane w f at ms) (library_does (with_lane w f at ms) n t).world → Turned b l at (numbered w.made t.out.letters) (library_status (Some t.state)) w (library_does (with_lane w f at ms) n t).world
+pub over-at : (b l n f at : ℕ) (w : World) (ms : List Message) (t : LibraryTurn) → b + (n - 64) ≡ at → Turned b l (b + (n - 64)) (numbered w.made t.out.letters) (library_status (Some t.state)) (with_lane w f at ms) (library_does (with_lane w f at ms) n t).world → Turned b l at (numbered w.made t.out.letters) (library_status (Some t.state)) w (library_does (with_lane w f at ms) n t).world
 over-at b l n f at w ms t e x = over b l at f at _ _ w _ ms (subst (λ k. Turned b l k (numbered w.made t.out.letters) (library_status (Some t.state)) (with_lane w f at ms) (library_does (with_lane w f at ms) n t).world) e x)
 
-rows-lane : (n : ℕ) (rows : List (List (List Message))) (i j : ℕ) (ms : List Message) → AreRows n rows → AreRows n (slice_set rows i (slice_set (slice_index_or rows i []) j ms))
+pub rows-lane : (n : ℕ) (rows : List (List (List Message))) (i j : ℕ) (ms : List Message) → AreRows n rows → AreRows n (slice_set rows i (slice_set (slice_index_or rows i []) j ms))
 rows-lane n [] i j ms a = tt
 rows-lane n (row ∷ rows) zero j ms a = (length-set row j ms ∙ a.0, a.1)
 rows-lane n (row ∷ rows) (suc i) j ms a = (a.0, rows-lane n rows i j ms a.1)

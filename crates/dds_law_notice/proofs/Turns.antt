@@ -1,25 +1,104 @@
-use Rattle.std.proofs.Common.{◌≡◌, Bool, true, false, List, [], ◌∷◌, ◌++◌, refl, ◌∙◌}
-use Rattle.std.specs.Prelude.{if◌then◌else◌}
+use Rattle.std.proofs.Common.{◌≡◌, Bool, true, false, List, [], ◌∷◌, ◌++◌, refl, ap, ◌∙◌}
 use Rattle.std.specs.List.{AllByRecursion}
+use Rattle.std.specs.Prelude.{ℕ, if◌then◌else◌}
 use Rattle.dds_base.specs.declared.node_set.NodeSet.{NodeSet}
 use Rattle.dds_base.specs.declared.number.NodeNo.{NodeNo}
+use Rattle.dds_base.specs.declared.op.Met.{Met}
+use Rattle.dds_base.specs.declared.op.OrderReply.{OrderReply}
+use Rattle.dds_base.specs.declared.op.OrderReply.TheVariants as answered
 use Rattle.dds_letters.specs.declared.letter.Letter.{Letter}
 use Rattle.dds_letters.specs.declared.letter.Letter.TheVariants as letter
 use Rattle.dds_states.specs.Turn.{BrickTurn, and_then, sends, still, to_each}
 use Rattle.dds_states.specs.declared.brick_state.BrickState.{BrickState}
+use Rattle.dds_states.specs.declared.turn.Replied.{Replied}
+use Rattle.dds_states.specs.declared.turn.Replied.TheVariants as replied
 
--- Turns that send no notice, and leave whether the node stopped and whom it knows as stopped.
+-- What a brick's turn sends and answers. Bricks begin no attempt and send notices only when they stop; what is said of their
+-- refusals is the parameter of these lemmas.
 
+-- what is said of a letter to a node, if it answers a get, votes, or refuses a lease
+abbrev pub Sent : Type 1
+Sent = NodeNo → Letter → Type 0
+
+-- what is said of what an order met, if its answer is that
+abbrev pub Given : Type 1
+Given = Met → Type 0
+
+abbrev pub Sends : Sent → NodeNo → Letter → Type 0
+Sends L to (letter.Got txn a) = L to (letter.Got txn a)
+Sends L to (letter.Vote txn vote) = L to (letter.Vote txn vote)
+Sends L to (letter.LeaseRefused number why) = L to (letter.LeaseRefused number why)
+Sends L to (letter.Get txn caller call key name stamp) = ⊥
+Sends L to (letter.Prepare txn caller call below name stamp list o) = ⊥
+Sends L to letter.Notice = ⊥
+Sends L to other = Unit {0}
+
+abbrev pub GivesOrder : Given → OrderReply → Type 0
+GivesOrder M (answered.Refused m) = M m
+GivesOrder M other = Unit {0}
+
+abbrev pub Gives : Given → Replied → Type 0
+Gives M (replied.Order reply) = GivesOrder M reply
+Gives M (replied.Call txn caller call reply) = ⊥
+
+abbrev pub AllSent : Sent → List (NodeNo × Letter) → Type 0
+AllSent L ls = AllByRecursion (λ (p : NodeNo × Letter). Sends L p.0 p.1) ls
+
+abbrev pub AllGiven : Given → List Replied → Type 0
+AllGiven M rs = AllByRecursion (Gives M) rs
+
+pub all-append : {X : Type 0} (P : X → Type 0) (xs ys : List X) → AllByRecursion P xs → AllByRecursion P ys → AllByRecursion P (xs ++ ys)
+all-append P [] ys h k = k
+all-append P (x ∷ xs) ys h k = (h.0, all-append P xs ys h.1 k)
+
+pub sent-each : (L : Sent) (nodes : List NodeNo) (l : Letter) → ((n : NodeNo) → Sends L n l) → AllSent L (to_each nodes l)
+sent-each L [] l h = tt
+sent-each L (n ∷ ns) l h = (h n, sent-each L ns l h)
+
+-- a brick's number, whether it has stopped, and whom it knows
+pub record Who : Type 0 where
+  pub number : ℕ
+  pub stopped : Bool
+  pub known : NodeSet
+
+abbrev pub who : BrickState → Who
+who s = record { number = s.number; stopped = s.stopped; known = s.known }
+
+-- a turn of which this is said, and that leaves the brick so
+pub record Tells (L : Sent) (M : Given) (w : Who) (t : BrickTurn) : Type 0 where
+  pub same : who t.state ≡ w
+  pub letters : AllSent L t.out.letters
+  pub replies : AllGiven M t.out.replies
+
+pub tells-still : {L : Sent} {M : Given} (s : BrickState) → Tells L M (who s) (still s)
+tells-still s = record { same = refl; letters = tt; replies = tt }
+
+pub tells-sends : {L : Sent} {M : Given} (s : BrickState) (ls : List (NodeNo × Letter)) → AllSent L ls → Tells L M (who s) (sends s ls)
+tells-sends s ls h = record { same = refl; letters = h; replies = tt }
+
+pub tells-then : {L : Sent} {M : Given} (w : Who) (t : BrickTurn) (row : BrickState → BrickTurn) → Tells L M w t → ((u : BrickState) → Tells L M (who u) (row u)) → Tells L M w (and_then t row)
+tells-then w t row h f =
+    let g = f t.state in
+    record { same = g.same ∙ h.same; letters = all-append _ t.out.letters (row t.state).out.letters h.letters g.letters; replies = all-append _ t.out.replies (row t.state).out.replies h.replies g.replies }
+
+pub tells-if : {L : Sent} {M : Given} (w : Who) (c : Bool) (t u : BrickTurn) → Tells L M w t → Tells L M w u → Tells L M w (if c then t else u)
+tells-if w true t u h g = h
+tells-if w false t u h g = g
+
+-- from a state that differs in other things
+pub tells-from : {L : Sent} {M : Given} (s u : BrickState) (t : BrickTurn) → who u ≡ who s → Tells L M (who u) t → Tells L M (who s) t
+tells-from s u t e h = record { same = h.same ∙ e; letters = h.letters; replies = h.replies }
+
+pub tells-one : {L : Sent} {M : Given} (s u : BrickState) (to : NodeNo) (l : Letter) → who u ≡ who s → Sends L to l → Tells L M (who s) (sends u ((to, l) ∷ []))
+tells-one s u to l e h = record { same = e; letters = (h, tt); replies = tt }
+
+-- turns that send no notice, and leave whether the node stopped and whom it knows as stopped
 abbrev pub is_notice : Letter → Bool
 is_notice letter.Notice = true
 is_notice other = false
 
 abbrev pub NoNotices : List (NodeNo × Letter) → Type 0
 NoNotices ls = AllByRecursion (λ (p : NodeNo × Letter). is_notice p.1 ≡ false) ls
-
-pub none-append : (ls ms : List (NodeNo × Letter)) → NoNotices ls → NoNotices ms → NoNotices (ls ++ ms)
-none-append [] ms h k = k
-none-append (l ∷ ls) ms h k = (h.0, none-append ls ms h.1 k)
 
 pub none-each : (nodes : List NodeNo) (l : Letter) → is_notice l ≡ false → NoNotices (to_each nodes l)
 none-each [] l h = tt
@@ -31,27 +110,38 @@ pub record TellsNoStop (k : NodeSet) (b : Bool) (t : BrickTurn) : Type 0 where
   pub stopped : t.state.stopped ≡ b
   pub letters : NoNotices t.out.letters
 
-pub tells-still : (s : BrickState) → TellsNoStop s.known s.stopped (still s)
-tells-still s = record { known = refl; stopped = refl; letters = tt }
+no-notice : (L : Sent) (to : NodeNo) (l : Letter) → Sends L to l → is_notice l ≡ false
+no-notice L to (letter.Get txn caller call key name stamp) h = refl
+no-notice L to (letter.Prepare txn caller call below name stamp list o) h = refl
+no-notice L to (letter.Commit txn) h = refl
+no-notice L to (letter.Abort txn) h = refl
+no-notice L to (letter.Push leaf) h = refl
+no-notice L to (letter.MapAsk txn caller call key) h = refl
+no-notice L to (letter.Got txn a) h = refl
+no-notice L to (letter.Vote txn vote) h = refl
+no-notice L to (letter.Applied txn was) h = refl
+no-notice L to (letter.Aborted txn) h = refl
+no-notice L to (letter.MapTell txn leaf) h = refl
+no-notice L to (letter.Help txn list) h = refl
+no-notice L to (letter.Query txn list) h = refl
+no-notice L to (letter.Status txn status) h = refl
+no-notice L to (letter.Outcome txn commit) h = refl
+no-notice L to (letter.Lease number what) h = refl
+no-notice L to (letter.Granted number leaf) h = refl
+no-notice L to (letter.LeaseRefused number why) h = refl
+no-notice L to (letter.Release number name) h = refl
+no-notice L to (letter.CopyAsk number name after) h = refl
+no-notice L to (letter.CopyPart number last pairs) h = refl
+no-notice L to (letter.Install number leaf) h = refl
+no-notice L to (letter.Installed number name) h = refl
+no-notice L to letter.Notice h = absurd h
 
-pub tells-sends : (s : BrickState) (ls : List (NodeNo × Letter)) → NoNotices ls → TellsNoStop s.known s.stopped (sends s ls)
-tells-sends s ls h = record { known = refl; stopped = refl; letters = h }
+no-notices : (L : Sent) (ls : List (NodeNo × Letter)) → AllSent L ls → NoNotices ls
+no-notices L [] h = tt
+no-notices L (l ∷ ls) h = (no-notice L l.0 l.1 h.0, no-notices L ls h.1)
 
-pub tells-then : (k : NodeSet) (b : Bool) (t : BrickTurn) (row : BrickState → BrickTurn) → TellsNoStop k b t → ((u : BrickState) → TellsNoStop u.known u.stopped (row u)) → TellsNoStop k b (and_then t row)
-tells-then k b t row h f =
-    let g = f t.state in
-    record { known = g.known ∙ h.known; stopped = g.stopped ∙ h.stopped; letters = none-append t.out.letters (row t.state).out.letters h.letters g.letters }
-
-pub tells-if : (k : NodeSet) (b c : Bool) (t u : BrickTurn) → TellsNoStop k b t → TellsNoStop k b u → TellsNoStop k b (if c then t else u)
-tells-if k b true t u h g = h
-tells-if k b false t u h g = g
-
--- from a state that knows the same
-pub tells-from : (s u : BrickState) (t : BrickTurn) → u.known ≡ s.known → u.stopped ≡ s.stopped → TellsNoStop u.known u.stopped t → TellsNoStop s.known s.stopped t
-tells-from s u t e f h = record { known = h.known ∙ e; stopped = h.stopped ∙ f; letters = h.letters }
-
-pub tells-one : (s u : BrickState) (to : NodeNo) (l : Letter) → u.known ≡ s.known → u.stopped ≡ s.stopped → is_notice l ≡ false → TellsNoStop s.known s.stopped (sends u ((to, l) ∷ []))
-tells-one s u to l e f h = record { known = e; stopped = f; letters = (h, tt) }
+pub no-stop : {L : Sent} {M : Given} (w : Who) (t : BrickTurn) → Tells L M w t → TellsNoStop w.known w.stopped t
+no-stop {L = L} w t h = record { known = ap (λ (x : Who). x.known) h.same; stopped = ap (λ (x : Who). x.stopped) h.same; letters = no-notices L t.out.letters h.letters }
 
 pub not-true : (b : Bool) → b ≡ false → b ≡ true → ⊥
 not-true b e f = cc

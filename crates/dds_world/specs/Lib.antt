@@ -4,4 +4,5 @@ pub mod Trace
 pub mod Stands
 pub mod Causes
 pub mod Reached
+pub mod Refusals
 pub mod Framed

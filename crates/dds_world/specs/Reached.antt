@@ -1,23 +1,20 @@
--- Nine facts of each world that a run reaches.
-use Rattle.std.specs.Prelude.{ℕ, ◌≡◌, ◌≤◌, ◌⊎◌, ◌&&◌, ◌+◌, Bool, true, false, not, List, [], ◌∷◌, ◌++◌, Option, Some, None, is_some, length, map, slice_get, if◌then◌else◌}
+-- Facts of each world that a run reaches; the ninth, of refusals, is in `Refusals`.
+use Rattle.std.specs.Prelude.{ℕ, ◌≡◌, ◌≤◌, ◌⊎◌, ◌&&◌, ◌+◌, Bool, true, false, not, List, [], ◌∷◌, ◌++◌, Option, Some, None, is_some, length, map, slice_get, take, if◌then◌else◌}
 use Rattle.std.specs.FinMap.{get}
 use Rattle.dds_base.specs.BrickList.{has}
 use Rattle.dds_base.specs.Name.{Name, covers}
 use Rattle.dds_base.specs.NodeSet.{has_node}
-use Rattle.dds_base.specs.Number.{Txn, StampOf, same_txn}
+use Rattle.dds_base.specs.Number.{Txn, same_txn}
 use Rattle.dds_base.specs.Op.{the_key, is_get}
 use Rattle.dds_base.specs.Place.{last_key}
 use Rattle.dds_base.specs.declared.leaf.Leaf.{Leaf}
 use Rattle.dds_base.specs.declared.number.CallNo.{CallNo}
-use Rattle.dds_base.specs.declared.number.CallerNo.{CallerNo}
 use Rattle.dds_base.specs.declared.number.NodeNo.{NodeNo}
-use Rattle.dds_base.specs.declared.op.Op.{Op}
 use Rattle.dds_base.specs.declared.pair.Pair.{Pair}
 use Rattle.dds_base.specs.declared.pending.Pending.{Pending}
 use Rattle.dds_base.specs.declared.pending.TxnStatus.{TxnStatus}
-use Rattle.dds_brick_rows.specs.Refusal.{is_join, get_refusal, update_denial, lease_refusal}
+use Rattle.dds_brick_rows.specs.Refusal.{is_join}
 use Rattle.dds_brick_rows.specs.Resolution.{is_ready}
-use Rattle.dds_brick_rows.specs.Take.{take as take_leaf}
 use Rattle.dds_history.specs.History.{IsLegal, replay}
 use Rattle.dds_history.specs.Map.{Map}
 use Rattle.dds_history.specs.declared.entry.Entry.{Entry}
@@ -50,7 +47,7 @@ use Rattle.dds_trie.specs.Trie.{is_under}
 use Rattle.dds_world.specs.World.{World, is_node, brick_at, library_at, link, outbox}
 use Rattle.dds_world.specs.Trace.{run_of}
 use Rattle.dds_world.specs.Stands.{history}
-use Rattle.dds_world.specs.Causes.{world_at, Handles}
+use Rattle.dds_world.specs.Causes.{world_at}
 use Rattle.dds_world.specs.declared.step.Message.{Message}
 use Rattle.dds_world.specs.declared.step.Step.{Step}
 use Rattle.dds_world.specs.declared.trace.Made.{Made}
@@ -231,11 +228,19 @@ AreCopied table o Leasing = Unit {0}
 AreCopied table o (Copying source) = o.copied ++ pairs_after table o.name (last_key None o.copied) ≡ pairs_after table o.name None
 AreCopied table o (Installing made) = o.copied ≡ pairs_after table o.name None
 
+-- a live brick with an open join that copies or installs
+pub record Copies (w : World) (joiner : NodeNo) (s : BrickState) (order : OpenOrder) : Type 0 where
+  pub live : IsLive w joiner s
+  pub open_order : s.order ≡ Some order
+  pub join : is_join order.task ≡ true
+  pub copied : IsCopied w joiner order
+
 -- while a join copies or installs, each brick that serves a key under its name has given it the lease and has no key there
--- pending, and what was copied is the history's
+-- pending, what was copied is the history's, and no step changes the history's pairs there
 pub record JoinIsFrozen (o : OpeningOf) (journal : List Step) : Type 0 where
-  pub leased : (joiner brick : NodeNo) (s t : BrickState) (order : OpenOrder) (key : ℕ) (leaf : Leaf) → IsLive (after o journal).world joiner s → s.order ≡ Some order → is_join order.task ≡ true → IsCopied (after o journal).world joiner order → covers order.name key ≡ true → Serves (after o journal).world brick key t leaf → (is_given t.locks.leases order.name joiner ≡ true) × (any_under t.locks.pending order.name ≡ false)
-  pub copied : (joiner : NodeNo) (s : BrickState) (order : OpenOrder) → IsLive (after o journal).world joiner s → s.order ≡ Some order → is_join order.task ≡ true → IsCopied (after o journal).world joiner order → AreCopied (replay (history (after o journal))) order order.phase
+  pub leased : (joiner brick : NodeNo) (s t : BrickState) (order : OpenOrder) (key : ℕ) (leaf : Leaf) → Copies (after o journal).world joiner s order → covers order.name key ≡ true → Serves (after o journal).world brick key t leaf → (is_given t.locks.leases order.name joiner ≡ true) × (any_under t.locks.pending order.name ≡ false)
+  pub copied : (joiner : NodeNo) (s : BrickState) (order : OpenOrder) → Copies (after o journal).world joiner s order → AreCopied (replay (history (after o journal))) order order.phase
+  pub still : (joiner : NodeNo) (s t : BrickState) (order later : OpenOrder) (at : ℕ) → length journal ≡ at + 1 → Copies (world_at o journal at) joiner s order → Copies (after o journal).world joiner t later → later.number ≡ order.number → pairs_after (replay (history (after o journal))) order.name None ≡ pairs_after (replay (history (after o (take at journal)))) order.name None
 
 -- a node knows another one as stopped
 abbrev pub Knows : World → NodeNo → NodeNo → Type 0
@@ -267,48 +272,3 @@ pub record IsAttemptOf (o : OpeningOf) (journal : List Step) (caller : ℕ) (cal
 pub record OnlyTheLastAttempt (o : OpeningOf) (journal : List Step) : Type 0 where
   pub applied : (at : ℕ) (m : Made) (txn : Txn) → slice_get (after o journal).made at ≡ Some m → is_get m.entry.op ≡ false → IsAttemptOf o journal m.entry.caller m.entry.call txn → txn.number ≤ m.txn.number
   pub pending : (brick : NodeNo) (s : BrickState) (at : ℕ) (p : Pending) (txn : Txn) → IsLive (after o journal).world brick s → slice_get s.locks.pending at ≡ Some p → IsAttemptOf o journal p.caller p.call txn → txn.number ≤ p.txn.number
-
--- at some place of the run the brick took this letter in this state
-pub record TookBefore (o : OpeningOf) (journal : List Step) (brick : NodeNo) (l : Letter) (s : BrickState) : Type 0 where
-  pub at : ℕ
-  pub handles : Handles o journal at brick l s
-
--- a get's refusal, an update's and a lease's were true when the brick made them
-pub record GetWasRefused (o : OpeningOf) (journal : List Step) (brick : NodeNo) (txn : Txn) (why : Refusal) : Type 0 where
-  pub caller : CallerNo
-  pub call : CallNo
-  pub key : ℕ
-  pub name : Name
-  pub stamp : StampOf
-  pub state : BrickState
-  pub took : TookBefore o journal brick (letter.Get txn caller call key name stamp) state
-  pub true_then : get_refusal state key name stamp ≡ Some why
-
-pub record UpdateWasDenied (o : OpeningOf) (journal : List Step) (brick : NodeNo) (txn : Txn) (why : Denial) : Type 0 where
-  pub caller : CallerNo
-  pub call : CallNo
-  pub below : ℕ
-  pub name : Name
-  pub stamp : StampOf
-  pub list : List NodeNo
-  pub op : Op
-  pub state : BrickState
-  pub took : TookBefore o journal brick (letter.Prepare txn caller call below name stamp list op) state
-  pub true_then : update_denial state op name stamp ≡ Some why
-
-abbrev pub lease_was_refused : BrickState → Wanted → Option Refusal
-lease_was_refused s (wanted.Name name) = lease_refusal s name None
-lease_was_refused s (wanted.Leaf leaf) = lease_refusal (take_leaf s leaf) leaf.name (Some leaf.stamp)
-
-pub record LeaseWasRefused (o : OpeningOf) (journal : List Step) (brick : NodeNo) (number : ℕ) (why : Refusal) : Type 0 where
-  pub what : Wanted
-  pub state : BrickState
-  pub took : TookBefore o journal brick (letter.Lease number what) state
-  pub true_then : lease_was_refused state what ≡ Some why
-
--- each refusal in a letter, or kept by a library, was true at the step that made it
-pub record RefusalsWereTrue (o : OpeningOf) (journal : List Step) : Type 0 where
-  pub gets : (from to : NodeNo) (txn : Txn) (why : Refusal) → Travels (after o journal).world from to (letter.Got txn (answer.Refused why)) → GetWasRefused o journal from txn why
-  pub updates : (from to : NodeNo) (txn : Txn) (why : Denial) → Travels (after o journal).world from to (letter.Vote txn (ballot.No why)) → UpdateWasDenied o journal from txn why
-  pub leases : (from to : NodeNo) (number : ℕ) (why : Refusal) → Travels (after o journal).world from to (letter.LeaseRefused number why) → LeaseWasRefused o journal from number why
-  pub kept : (node brick : NodeNo) (s : LibraryState) (at : ℕ) (c : OpenCall) (waiting : List NodeNo) (why : Denial) → library_at (after o journal).world node ≡ Some s → slice_get s.calls at ≡ Some c → c.phase ≡ phase.Aborting waiting why brick → UpdateWasDenied o journal brick c.txn why

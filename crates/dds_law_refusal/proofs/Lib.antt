@@ -1,0 +1,11 @@
+pub mod Lists
+pub mod CallRows
+pub mod LibraryRows
+pub mod Meanings
+pub mod Moves
+pub mod Good
+pub mod BrickSteps
+pub mod LibrarySteps
+pub mod Steps
+pub mod Runs
+pub mod Facts

@@ -1,0 +1,113 @@
+-- The ninth fact of each world that a run reaches: each refusal was true.
+use Rattle.std.specs.Prelude.{ℕ, ◌≡◌, List, Option, Some, None, is_some, slice_get, take}
+use Rattle.std.specs.FinMap.{get}
+use Rattle.dds_base.specs.Name.{Name}
+use Rattle.dds_base.specs.Number.{Txn, StampOf}
+use Rattle.dds_base.specs.declared.leaf.Leaf.{Leaf}
+use Rattle.dds_base.specs.declared.number.CallNo.{CallNo}
+use Rattle.dds_base.specs.declared.number.CallerNo.{CallerNo}
+use Rattle.dds_base.specs.declared.number.NodeNo.{NodeNo}
+use Rattle.dds_base.specs.declared.op.Met.{Met}
+use Rattle.dds_base.specs.declared.op.Met.TheVariants as met
+use Rattle.dds_base.specs.declared.op.Op.{Op}
+use Rattle.dds_base.specs.declared.op.Order.TheVariants as order
+use Rattle.dds_base.specs.declared.op.OrderReply.TheVariants as answered
+use Rattle.dds_brick_rows.specs.Refusal.{get_refusal, update_denial, lease_refusal}
+use Rattle.dds_brick_rows.specs.Take.{take as take_leaf}
+use Rattle.dds_letters.specs.declared.letter.Letter.{Letter}
+use Rattle.dds_letters.specs.declared.letter.Letter.TheVariants as letter
+use Rattle.dds_letters.specs.declared.refusal.Answer.TheVariants as answer
+use Rattle.dds_letters.specs.declared.refusal.Ballot.TheVariants as ballot
+use Rattle.dds_letters.specs.declared.refusal.Denial.{Denial}
+use Rattle.dds_letters.specs.declared.refusal.Denial.TheVariants as denial
+use Rattle.dds_letters.specs.declared.refusal.Refusal.{Refusal}
+use Rattle.dds_letters.specs.declared.refusal.Refusal.TheVariants as refusal
+use Rattle.dds_letters.specs.declared.refusal.Wanted.{Wanted}
+use Rattle.dds_letters.specs.declared.refusal.Wanted.TheVariants as wanted
+use Rattle.dds_locks.specs.Leases.{leased}
+use Rattle.dds_locks.specs.Pending.{any_under}
+use Rattle.dds_order_rows.specs.OwnOrder.{met_of}
+use Rattle.dds_script.specs.Opening.{OpeningOf}
+use Rattle.dds_states.specs.Turn.{first_some, when}
+use Rattle.dds_states.specs.declared.brick_state.BrickState.{BrickState}
+use Rattle.dds_states.specs.declared.library_state.LibraryState.{LibraryState}
+use Rattle.dds_states.specs.declared.library_state.OpenCall.{OpenCall}
+use Rattle.dds_states.specs.declared.library_state.Phase.TheVariants as phase
+use Rattle.dds_states.specs.declared.turn.Replied.TheVariants as replied
+use Rattle.dds_world.specs.Causes.{world_at, Handles}
+use Rattle.dds_world.specs.Reached.{Travels, after}
+use Rattle.dds_world.specs.Trace.{replies_in, run_of}
+use Rattle.dds_world.specs.World.{brick_at, library_at}
+use Rattle.dds_world.specs.declared.step.Input.TheVariants as input
+use Rattle.dds_world.specs.declared.step.Step.{Step}
+use Rattle.dds_world.specs.declared.step.Step.TheVariants as step
+
+-- at some place of the run the brick took this letter in this state
+pub record TookBefore (o : OpeningOf) (journal : List Step) (brick : NodeNo) (l : Letter) (s : BrickState) : Type 0 where
+  pub at : ℕ
+  pub handles : Handles o journal at brick l s
+
+-- a get's refusal, an update's and a lease's were true when the brick made them
+pub record GetWasRefused (o : OpeningOf) (journal : List Step) (brick : NodeNo) (txn : Txn) (why : Refusal) : Type 0 where
+  pub caller : CallerNo
+  pub call : CallNo
+  pub key : ℕ
+  pub name : Name
+  pub stamp : StampOf
+  pub state : BrickState
+  pub took : TookBefore o journal brick (letter.Get txn caller call key name stamp) state
+  pub true_then : get_refusal state key name stamp ≡ Some why
+
+pub record UpdateWasDenied (o : OpeningOf) (journal : List Step) (brick : NodeNo) (txn : Txn) (why : Denial) : Type 0 where
+  pub caller : CallerNo
+  pub call : CallNo
+  pub below : ℕ
+  pub name : Name
+  pub stamp : StampOf
+  pub list : List NodeNo
+  pub op : Op
+  pub state : BrickState
+  pub took : TookBefore o journal brick (letter.Prepare txn caller call below name stamp list op) state
+  pub true_then : update_denial state op name stamp ≡ Some why
+
+abbrev pub lease_was_refused : BrickState → Wanted → Option Refusal
+lease_was_refused s (wanted.Name name) = lease_refusal s name None
+lease_was_refused s (wanted.Leaf leaf) = lease_refusal (take_leaf s leaf) leaf.name (Some leaf.stamp)
+
+pub record LeaseWasRefused (o : OpeningOf) (journal : List Step) (brick asker : NodeNo) (number : ℕ) (why : Refusal) : Type 0 where
+  pub what : Wanted
+  pub state : BrickState
+  pub took : TookBefore o journal brick (letter.Lease number what) state
+  pub sender : took.handles.from ≡ asker
+  pub true_then : lease_was_refused state what ≡ Some why
+
+-- a brick refused an attempt of a call so
+pub data CallWasRefused : OpeningOf → List Step → ℕ → CallNo → Met → Type 0 where
+  of_get : (o : OpeningOf) (journal : List Step) (caller : ℕ) (call : CallNo) (m : Met) (brick : NodeNo) (txn : Txn) (why : Refusal) (was : GetWasRefused o journal brick txn why) → was.caller ≡ caller → was.call ≡ call → met_of why brick ≡ m → CallWasRefused o journal caller call m
+  of_update : (o : OpeningOf) (journal : List Step) (caller : ℕ) (call : CallNo) (m : Met) (brick : NodeNo) (txn : Txn) (why : Refusal) (was : UpdateWasDenied o journal brick txn (denial.Refused why)) → was.caller ≡ caller → was.call ≡ call → met_of why brick ≡ m → CallWasRefused o journal caller call m
+
+-- what a call keeps that looks for a newer map: a brick refused it for that; that a brick stopped is no refusal
+abbrev pub WasMet : OpeningOf → List Step → ℕ → CallNo → Met → Type 0
+WasMet o journal caller call (met.Stopped brick) = Unit {0}
+WasMet o journal caller call (met.Lease brick) = CallWasRefused o journal caller call (met.Lease brick)
+WasMet o journal caller call (met.Lock brick) = CallWasRefused o journal caller call (met.Lock brick)
+WasMet o journal caller call (met.Stale brick) = CallWasRefused o journal caller call (met.Stale brick)
+
+-- a lease or a locked key stands in the way of a split at its own brick
+abbrev pub split_refusal : BrickState → Name → Option Refusal
+split_refusal s name =
+    first_some (when (is_some (leased s.locks.leases name)) refusal.Lease) (when (any_under s.locks.pending name) refusal.Lock)
+
+-- the step at a place answers an order with what it met: a member refused the lease, or, of a split, its own brick did
+pub data OrderWasRefused : OpeningOf → List Step → ℕ → Met → Type 0 where
+  by_member : (o : OpeningOf) (journal : List Step) (at : ℕ) (m : Met) (node brick : NodeNo) (number : ℕ) (why : Refusal) → slice_get journal at ≡ Some (step.Handle node brick) → LeaseWasRefused o journal brick node number why → met_of why brick ≡ m → OrderWasRefused o journal at m
+  by_itself : (o : OpeningOf) (journal : List Step) (at : ℕ) (m : Met) (node : NodeNo) (s : BrickState) (name : Name) (leaf : Leaf) (why : Refusal) → slice_get journal at ≡ Some (step.Input node (input.Order (order.Split node name))) → brick_at (world_at o journal at) node ≡ Some s → get s.leaves name ≡ Some leaf → split_refusal s leaf.name ≡ Some why → met_of why node ≡ m → OrderWasRefused o journal at m
+
+-- each refusal in a letter, kept by a library or given by an order was true at the step that made it
+pub record RefusalsWereTrue (o : OpeningOf) (journal : List Step) : Type 0 where
+  pub gets : (from to : NodeNo) (txn : Txn) (why : Refusal) → Travels (after o journal).world from to (letter.Got txn (answer.Refused why)) → GetWasRefused o journal from txn why
+  pub updates : (from to : NodeNo) (txn : Txn) (why : Denial) → Travels (after o journal).world from to (letter.Vote txn (ballot.No why)) → UpdateWasDenied o journal from txn why
+  pub leases : (from to : NodeNo) (number : ℕ) (why : Refusal) → Travels (after o journal).world from to (letter.LeaseRefused number why) → LeaseWasRefused o journal from to number why
+  pub kept : (node brick : NodeNo) (s : LibraryState) (at : ℕ) (c : OpenCall) (waiting : List NodeNo) (why : Denial) → library_at (after o journal).world node ≡ Some s → slice_get s.calls at ≡ Some c → c.phase ≡ phase.Aborting waiting why brick → UpdateWasDenied o journal brick c.txn why
+  pub asking : (node : NodeNo) (s : LibraryState) (at : ℕ) (c : OpenCall) (waiting : List NodeNo) (newest : Option Leaf) (m : Met) → library_at (after o journal).world node ≡ Some s → slice_get s.calls at ≡ Some c → c.phase ≡ phase.Asking waiting newest m → WasMet o journal c.request.caller c.request.call m
+  pub orders : (at place : ℕ) (s : Step) (m : Met) → slice_get journal at ≡ Some s → slice_get (replies_in (run_of o (take at journal)) s) place ≡ Some (replied.Order (answered.Refused m)) → OrderWasRefused o journal at m
