@@ -168,7 +168,7 @@ beyond [] i d h = refl
 beyond (x ∷ xs) zero d h = absurd (omega (arith, h))
 beyond (x ∷ xs) (suc i) d h = beyond xs i d (omega (arith, h))
 
-front-has : (xs ys : List Message) (at : ℕ) → at < length xs → slice_get (xs ++ ys) at ≡ slice_get xs at
+pub front-has : {X : Type 0} (xs ys : List X) (at : ℕ) → at < length xs → slice_get (xs ++ ys) at ≡ slice_get xs at
 front-has [] ys at h = absurd (omega (arith, h))
 front-has (x ∷ xs) ys zero h = refl
 front-has (x ∷ xs) ys (suc at) h = front-has xs ys at (omega (arith, h))

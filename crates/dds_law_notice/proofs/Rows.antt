@@ -40,7 +40,8 @@ use Rattle.dds_order_rows.specs.OwnOrder.{met_of}
 use Rattle.dds_world.specs.Refusals.{lease_was_refused}
 use Rattle.dds_law_notice.proofs.BrickRows as rows
 use Rattle.dds_law_notice.proofs.OrderRows as orders
-use Rattle.dds_law_notice.proofs.Turns.{Given, Sent, Tells, TellsNoStop, Who, is_notice, no-stop, tells-still, tells-then, tells-if, tells-one, who}
+use Rattle.dds_law_notice.proofs.Turns.Said.{answers, votes, refuses}
+use Rattle.dds_law_notice.proofs.Turns.{Given, Said, Sent, said, Tells, TellsNoStop, Who, is_notice, no-stop, tells-still, tells-then, tells-if, tells-one, who}
 
 -- A brick's turn: what it says of its refusals; it tells of no stop, and at a notice the brick knows the node that sent it.
 
@@ -114,16 +115,19 @@ IsAnswer answer.Absent = Unit {0}
 IsAnswer (answer.Value value) = Unit {0}
 IsAnswer (answer.Refused why) = ⊥
 
+abbrev pub RefusesNot : Said → Type 0
+RefusesNot (answers txn a) = IsAnswer a
+RefusesNot (votes txn ballot.Yes) = Unit {0}
+RefusesNot (votes txn (ballot.No why)) = ⊥
+RefusesNot (refuses number why) = ⊥
+RefusesNot other = Unit {0}
+
 abbrev pub RefusesNothing : Letter → Type 0
-RefusesNothing (letter.Got txn a) = IsAnswer a
-RefusesNothing (letter.Vote txn ballot.Yes) = Unit {0}
-RefusesNothing (letter.Vote txn (ballot.No why)) = ⊥
-RefusesNothing (letter.LeaseRefused number why) = ⊥
-RefusesNothing other = Unit {0}
+RefusesNothing l = RefusesNot (said l)
 
 -- what a brick's answer to a letter says
 pub data Says (s : BrickState) (from : NodeNo) (l : Letter) (to : NodeNo) (sent : Letter) : Type 0 where
-  nothing : RefusesNothing sent → Says s from l to sent
+  grants : RefusesNothing sent → Says s from l to sent
   get_refused : (txn : Txn) (caller : CallerNo) (call : CallNo) (key : ℕ) (name : Name) (stamp : StampOf) (why : Refusal) → l ≡ letter.Get txn caller call key name stamp → sent ≡ letter.Got txn (answer.Refused why) → get_refusal s key name stamp ≡ Some why → Says s from l to sent
   denied : (txn : Txn) (caller : CallerNo) (call : CallNo) (below : ℕ) (name : Name) (stamp : StampOf) (list : List NodeNo) (o : Op) (why : Denial) → l ≡ letter.Prepare txn caller call below name stamp list o → sent ≡ letter.Vote txn (ballot.No why) → update_denial s o name stamp ≡ Some why → Says s from l to sent
   lease_refused : (number : ℕ) (what : Wanted) (why : Refusal) → l ≡ letter.Lease number what → sent ≡ letter.LeaseRefused number why → to ≡ from → lease_was_refused s what ≡ Some why → Says s from l to sent
@@ -140,8 +144,8 @@ found None = tt
 found (Some value) = tt
 
 pub live-says : (s : BrickState) (from : NodeNo) (l : Letter) → Tells (Says s from l) (MetAt from l) (who_after s from l) (live_brick_turn s from l)
-live-says s from (letter.Get txn caller call key name stamp) = rows.get_row s from txn key name stamp (nothing (found (get s.pairs key))) (λ why e. get_refused txn caller call key name stamp why refl refl e)
-live-says s from (letter.Prepare txn caller call below name stamp list op) = rows.prepare_row s from (record { txn = txn; caller = caller; call = call; op = op; list = list }) below name stamp (nothing tt) (λ why e. denied txn caller call below name stamp list op why refl refl e)
+live-says s from (letter.Get txn caller call key name stamp) = rows.get_row s from txn key name stamp (grants (found (get s.pairs key))) (λ why e. get_refused txn caller call key name stamp why refl refl e)
+live-says s from (letter.Prepare txn caller call below name stamp list op) = rows.prepare_row s from (record { txn = txn; caller = caller; call = call; op = op; list = list }) below name stamp (grants tt) (λ why e. denied txn caller call below name stamp list op why refl refl e)
 live-says s from (letter.Commit txn) = rows.commit_row s from txn
 live-says s from (letter.Abort txn) = rows.abort_row s from txn
 live-says s from (letter.Push leaf) = rows.push_row s leaf

@@ -1,13 +1,18 @@
 use Rattle.std.proofs.Common.{◌≡◌, Bool, true, false, List, [], ◌∷◌, ◌++◌, refl, ap, ◌∙◌}
 use Rattle.std.specs.List.{AllByRecursion}
 use Rattle.std.specs.Prelude.{ℕ, if◌then◌else◌}
+use Rattle.dds_base.specs.Number.{Txn}
 use Rattle.dds_base.specs.declared.node_set.NodeSet.{NodeSet}
+use Rattle.dds_base.specs.declared.number.CallNo.{CallNo}
 use Rattle.dds_base.specs.declared.number.NodeNo.{NodeNo}
 use Rattle.dds_base.specs.declared.op.Met.{Met}
 use Rattle.dds_base.specs.declared.op.OrderReply.{OrderReply}
 use Rattle.dds_base.specs.declared.op.OrderReply.TheVariants as answered
 use Rattle.dds_letters.specs.declared.letter.Letter.{Letter}
 use Rattle.dds_letters.specs.declared.letter.Letter.TheVariants as letter
+use Rattle.dds_letters.specs.declared.refusal.Answer.{Answer}
+use Rattle.dds_letters.specs.declared.refusal.Ballot.{Ballot}
+use Rattle.dds_letters.specs.declared.refusal.Refusal.{Refusal}
 use Rattle.dds_states.specs.Turn.{BrickTurn, and_then, sends, still, to_each}
 use Rattle.dds_states.specs.declared.brick_state.BrickState.{BrickState}
 use Rattle.dds_states.specs.declared.turn.Replied.{Replied}
@@ -24,14 +29,34 @@ Sent = NodeNo → Letter → Type 0
 abbrev pub Given : Type 1
 Given = Met → Type 0
 
+-- what a letter says here: it begins an attempt of a call, answers a get, votes, refuses a lease, or is a notice
+pub data Said : Type 0 where
+  begins : Txn → ℕ → CallNo → Said
+  answers : Txn → Answer → Said
+  votes : Txn → Ballot → Said
+  refuses : ℕ → Refusal → Said
+  stops : Said
+  nothing : Said
+
+abbrev pub said : Letter → Said
+said (letter.Get txn caller call key name stamp) = begins txn caller call
+said (letter.Prepare txn caller call below name stamp list o) = begins txn caller call
+said (letter.Got txn a) = answers txn a
+said (letter.Vote txn vote) = votes txn vote
+said (letter.LeaseRefused number why) = refuses number why
+said letter.Notice = stops
+said other = nothing
+
+abbrev pub SendsIf : Type 0 → Said → Type 0
+SendsIf P (begins txn caller call) = ⊥
+SendsIf P (answers txn a) = P
+SendsIf P (votes txn vote) = P
+SendsIf P (refuses number why) = P
+SendsIf P stops = ⊥
+SendsIf P nothing = Unit {0}
+
 abbrev pub Sends : Sent → NodeNo → Letter → Type 0
-Sends L to (letter.Got txn a) = L to (letter.Got txn a)
-Sends L to (letter.Vote txn vote) = L to (letter.Vote txn vote)
-Sends L to (letter.LeaseRefused number why) = L to (letter.LeaseRefused number why)
-Sends L to (letter.Get txn caller call key name stamp) = ⊥
-Sends L to (letter.Prepare txn caller call below name stamp list o) = ⊥
-Sends L to letter.Notice = ⊥
-Sends L to other = Unit {0}
+Sends L to l = SendsIf (L to l) (said l)
 
 abbrev pub GivesOrder : Given → OrderReply → Type 0
 GivesOrder M (answered.Refused m) = M m
@@ -93,9 +118,12 @@ pub tells-one : {L : Sent} {M : Given} (s u : BrickState) (to : NodeNo) (l : Let
 tells-one s u to l e h = record { same = e; letters = (h, tt); replies = tt }
 
 -- turns that send no notice, and leave whether the node stopped and whom it knows as stopped
+abbrev pub is_stops : Said → Bool
+is_stops stops = true
+is_stops other = false
+
 abbrev pub is_notice : Letter → Bool
-is_notice letter.Notice = true
-is_notice other = false
+is_notice l = is_stops (said l)
 
 abbrev pub NoNotices : List (NodeNo × Letter) → Type 0
 NoNotices ls = AllByRecursion (λ (p : NodeNo × Letter). is_notice p.1 ≡ false) ls
@@ -110,35 +138,17 @@ pub record TellsNoStop (k : NodeSet) (b : Bool) (t : BrickTurn) : Type 0 where
   pub stopped : t.state.stopped ≡ b
   pub letters : NoNotices t.out.letters
 
-no-notice : (L : Sent) (to : NodeNo) (l : Letter) → Sends L to l → is_notice l ≡ false
-no-notice L to (letter.Get txn caller call key name stamp) h = refl
-no-notice L to (letter.Prepare txn caller call below name stamp list o) h = refl
-no-notice L to (letter.Commit txn) h = refl
-no-notice L to (letter.Abort txn) h = refl
-no-notice L to (letter.Push leaf) h = refl
-no-notice L to (letter.MapAsk txn caller call key) h = refl
-no-notice L to (letter.Got txn a) h = refl
-no-notice L to (letter.Vote txn vote) h = refl
-no-notice L to (letter.Applied txn was) h = refl
-no-notice L to (letter.Aborted txn) h = refl
-no-notice L to (letter.MapTell txn leaf) h = refl
-no-notice L to (letter.Help txn list) h = refl
-no-notice L to (letter.Query txn list) h = refl
-no-notice L to (letter.Status txn status) h = refl
-no-notice L to (letter.Outcome txn commit) h = refl
-no-notice L to (letter.Lease number what) h = refl
-no-notice L to (letter.Granted number leaf) h = refl
-no-notice L to (letter.LeaseRefused number why) h = refl
-no-notice L to (letter.Release number name) h = refl
-no-notice L to (letter.CopyAsk number name after) h = refl
-no-notice L to (letter.CopyPart number last pairs) h = refl
-no-notice L to (letter.Install number leaf) h = refl
-no-notice L to (letter.Installed number name) h = refl
-no-notice L to letter.Notice h = absurd h
+no-notice : (P : Type 0) (x : Said) → SendsIf P x → is_stops x ≡ false
+no-notice P (begins txn caller call) h = refl
+no-notice P (answers txn a) h = refl
+no-notice P (votes txn vote) h = refl
+no-notice P (refuses number why) h = refl
+no-notice P stops h = absurd h
+no-notice P nothing h = refl
 
 no-notices : (L : Sent) (ls : List (NodeNo × Letter)) → AllSent L ls → NoNotices ls
 no-notices L [] h = tt
-no-notices L (l ∷ ls) h = (no-notice L l.0 l.1 h.0, no-notices L ls h.1)
+no-notices L (l ∷ ls) h = (no-notice (L l.0 l.1) (said l.1) h.0, no-notices L ls h.1)
 
 pub no-stop : {L : Sent} {M : Given} (w : Who) (t : BrickTurn) → Tells L M w t → TellsNoStop w.known w.stopped t
 no-stop {L = L} w t h = record { known = ap (λ (x : Who). x.known) h.same; stopped = ap (λ (x : Who). x.stopped) h.same; letters = no-notices L t.out.letters h.letters }

@@ -32,12 +32,13 @@ use Rattle.dds_world.specs.declared.step.Step.{Step}
 use Rattle.dds_world.specs.declared.step.Step.TheVariants as step
 use Rattle.dds_law_notice.proofs.Channels.{node_of, place_in}
 use Rattle.dds_law_notice.proofs.OrderRows.{InputMet, order-tells}
-use Rattle.dds_law_notice.proofs.Rows.{IsAnswer, MetAt, RefusesNothing, Says, live-says}
-use Rattle.dds_law_notice.proofs.Rows.Says.{nothing, get_refused, denied, lease_refused}
-use Rattle.dds_law_notice.proofs.Turns.{Gives, GivesOrder, Sends, Who}
+use Rattle.dds_law_notice.proofs.Rows.{IsAnswer, MetAt, RefusesNot, RefusesNothing, Says, live-says}
+use Rattle.dds_law_notice.proofs.Rows.Says.{grants, get_refused, denied, lease_refused}
+use Rattle.dds_law_notice.proofs.Turns.{Said, SendsIf, said, Gives, GivesOrder, Sends, Who}
+use Rattle.dds_law_notice.proofs.Turns.Said.{begins, answers, votes, refuses, stops, nothing}
 use Rattle.dds_law_refusal.proofs.Good.{Grown, OrderOk, ReplyOk, last-is, world-now}
 use Rattle.dds_law_refusal.proofs.Lists.{all-map}
-use Rattle.dds_law_refusal.proofs.Meanings.{AnswerFact, Fact, TiesLast, VoteFact, lease-later}
+use Rattle.dds_law_refusal.proofs.Meanings.{AnswerFact, Fact, SaidFact, TiesLast, VoteFact, lease-later}
 
 -- What a brick sends and answers is so.
 
@@ -66,7 +67,7 @@ took {o = o} {journal = journal} {x = x} {w = w} {n = n} {from = from} {m = m} {
     }
 
 says-fact : (o : OpeningOf) (journal : List Step) (x : Step) (w u : World) (n from : NodeNo) (m : Message) (ms : List Message) (s : BrickState) (sender : ℕ) (to : NodeNo) (sent : Letter) → Takes o journal x w n from m ms s → Fact o.bricks o journal w sender m.to m.letter → TiesLast w u → Says s from m.letter to sent → (RefusesNothing sent → Fact o.bricks o (Grown journal x) u n to sent) → Fact o.bricks o (Grown journal x) u n to sent
-says-fact o journal x w u n from m ms s sender to sent t f last (nothing r) h = h r
+says-fact o journal x w u n from m ms s sender to sent t f last (grants r) h = h r
 says-fact o journal x w u n from m ms s sender to sent t f last (get_refused txn caller call key name stamp why is e true_then) h =
     subst (Fact o.bricks o (Grown journal x) u n to) (sym e)
     (record { caller = caller; call = call; key = key; name = name; stamp = stamp; state = s; took = took (letter.Get txn caller call key name stamp) t is; true_then = true_then }, last txn caller call (subst (Fact o.bricks o journal w sender m.to) is f))
@@ -86,31 +87,17 @@ vote-nothing : (o : OpeningOf) (journal : List Step) (u : World) (n : ℕ) (txn 
 vote-nothing o journal u n txn ballot.Yes h = tt
 vote-nothing o journal u n txn (ballot.No why) h = absurd h
 
+said-fact : (o : OpeningOf) (journal : List Step) (u : World) (n : NodeNo) (to : NodeNo) (P : Type 0) (x : Said) → SendsIf P x → (P → (RefusesNot x → SaidFact o.bricks o journal u n to x) → SaidFact o.bricks o journal u n to x) → SaidFact o.bricks o journal u n to x
+said-fact o journal u n to P (begins txn caller call) h f = absurd h
+said-fact o journal u n to P (answers txn a) h f = f h (λ r. answer-nothing o journal u n txn a r)
+said-fact o journal u n to P (votes txn vote) h f = f h (λ r. vote-nothing o journal u n txn vote r)
+said-fact o journal u n to P (refuses number why) h f = f h (λ r. absurd r)
+said-fact o journal u n to P stops h f = absurd h
+said-fact o journal u n to P nothing h f = tt
+
 sends-fact : (o : OpeningOf) (journal : List Step) (x : Step) (w u : World) (n from : NodeNo) (m : Message) (ms : List Message) (s : BrickState) (sender : ℕ) (to : NodeNo) (sent : Letter) → Takes o journal x w n from m ms s → Fact o.bricks o journal w sender m.to m.letter → TiesLast w u → Sends (Says s from m.letter) to sent → Fact o.bricks o (Grown journal x) u n to sent
-sends-fact o journal x w u n from m ms s sender to (letter.Get txn caller call key name stamp) t f last h = absurd h
-sends-fact o journal x w u n from m ms s sender to (letter.Prepare txn caller call bound name stamp list op) t f last h = absurd h
-sends-fact o journal x w u n from m ms s sender to (letter.Commit txn) t f last h = tt
-sends-fact o journal x w u n from m ms s sender to (letter.Abort txn) t f last h = tt
-sends-fact o journal x w u n from m ms s sender to (letter.Push leaf) t f last h = tt
-sends-fact o journal x w u n from m ms s sender to (letter.MapAsk txn caller call key) t f last h = tt
-sends-fact o journal x w u n from m ms s sender to (letter.Got txn a) t f last h = says-fact o journal x w u n from m ms s sender to (letter.Got txn a) t f last h (λ r. answer-nothing o (Grown journal x) u n txn a r)
-sends-fact o journal x w u n from m ms s sender to (letter.Vote txn vote) t f last h = says-fact o journal x w u n from m ms s sender to (letter.Vote txn vote) t f last h (λ r. vote-nothing o (Grown journal x) u n txn vote r)
-sends-fact o journal x w u n from m ms s sender to (letter.Applied txn was) t f last h = tt
-sends-fact o journal x w u n from m ms s sender to (letter.Aborted txn) t f last h = tt
-sends-fact o journal x w u n from m ms s sender to (letter.MapTell txn leaf) t f last h = tt
-sends-fact o journal x w u n from m ms s sender to (letter.Help txn list) t f last h = tt
-sends-fact o journal x w u n from m ms s sender to (letter.Query txn list) t f last h = tt
-sends-fact o journal x w u n from m ms s sender to (letter.Status txn status) t f last h = tt
-sends-fact o journal x w u n from m ms s sender to (letter.Outcome txn commit) t f last h = tt
-sends-fact o journal x w u n from m ms s sender to (letter.Lease number what) t f last h = tt
-sends-fact o journal x w u n from m ms s sender to (letter.Granted number leaf) t f last h = tt
-sends-fact o journal x w u n from m ms s sender to (letter.LeaseRefused number why) t f last h = says-fact o journal x w u n from m ms s sender to (letter.LeaseRefused number why) t f last h (λ r. absurd r)
-sends-fact o journal x w u n from m ms s sender to (letter.Release number name) t f last h = tt
-sends-fact o journal x w u n from m ms s sender to (letter.CopyAsk number name after) t f last h = tt
-sends-fact o journal x w u n from m ms s sender to (letter.CopyPart number last_part pairs) t f last h = tt
-sends-fact o journal x w u n from m ms s sender to (letter.Install number leaf) t f last h = tt
-sends-fact o journal x w u n from m ms s sender to (letter.Installed number name) t f last h = tt
-sends-fact o journal x w u n from m ms s sender to letter.Notice t f last h = absurd h
+sends-fact o journal x w u n from m ms s sender to sent t f last h =
+    said-fact o (Grown journal x) u n to (Says s from m.letter to sent) (said sent) h (λ says k. says-fact o journal x w u n from m ms s sender to sent t f last says k)
 
 -- an order that is answered at a letter
 order-fact : (o : OpeningOf) (journal : List Step) (x : Step) (w : World) (n from : NodeNo) (m : Message) (ms : List Message) (s : BrickState) (sender : ℕ) (reply : OrderReply) → Takes o journal x w n from m ms s → sender ≡ from → node_of o.bricks (place_in o.bricks m.to) ≡ n → Fact o.bricks o journal w sender m.to m.letter → GivesOrder (MetAt from m.letter) reply → OrderOk o (Grown journal x) (length journal) reply
@@ -155,30 +142,7 @@ abbrev pub NoneSaid : NodeNo → Letter → Type 0
 NoneSaid to l = ⊥
 
 none-fact : (o : OpeningOf) (journal : List Step) (u : World) (n : ℕ) (to : NodeNo) (sent : Letter) → Sends NoneSaid to sent → Fact o.bricks o journal u n to sent
-none-fact o journal u n to (letter.Get txn caller call key name stamp) h = absurd h
-none-fact o journal u n to (letter.Prepare txn caller call bound name stamp list op) h = absurd h
-none-fact o journal u n to (letter.Commit txn) h = tt
-none-fact o journal u n to (letter.Abort txn) h = tt
-none-fact o journal u n to (letter.Push leaf) h = tt
-none-fact o journal u n to (letter.MapAsk txn caller call key) h = tt
-none-fact o journal u n to (letter.Got txn a) h = absurd h
-none-fact o journal u n to (letter.Vote txn vote) h = absurd h
-none-fact o journal u n to (letter.Applied txn was) h = tt
-none-fact o journal u n to (letter.Aborted txn) h = tt
-none-fact o journal u n to (letter.MapTell txn leaf) h = tt
-none-fact o journal u n to (letter.Help txn list) h = tt
-none-fact o journal u n to (letter.Query txn list) h = tt
-none-fact o journal u n to (letter.Status txn status) h = tt
-none-fact o journal u n to (letter.Outcome txn commit) h = tt
-none-fact o journal u n to (letter.Lease number what) h = tt
-none-fact o journal u n to (letter.Granted number leaf) h = tt
-none-fact o journal u n to (letter.LeaseRefused number why) h = absurd h
-none-fact o journal u n to (letter.Release number name) h = tt
-none-fact o journal u n to (letter.CopyAsk number name after) h = tt
-none-fact o journal u n to (letter.CopyPart number last_part pairs) h = tt
-none-fact o journal u n to (letter.Install number leaf) h = tt
-none-fact o journal u n to (letter.Installed number name) h = tt
-none-fact o journal u n to letter.Notice h = absurd h
+none-fact o journal u n to sent h = said-fact o journal u n to ⊥ (said sent) h (λ never k. absurd never)
 
 input-order : (o : OpeningOf) (journal : List Step) (x : Step) (w : World) (n : NodeNo) (s : BrickState) (ord : Order) (m : Met) → (run_of o journal).world ≡ w → x ≡ step.Input n (input.Order ord) → brick_at w n ≡ Some s → s.number ≡ n → ((brick : NodeNo) (name : Name) → ord ≡ the_order.Split brick name → brick ≡ n) → InputMet s ord m → OrderOk o (Grown journal x) (length journal) (answered.Refused m)
 input-order o journal x w n s (the_order.Join brick name via) m now is there number named h = absurd h

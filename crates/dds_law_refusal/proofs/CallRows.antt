@@ -36,6 +36,8 @@ use Rattle.dds_states.specs.declared.library_state.Phase.{Phase}
 use Rattle.dds_states.specs.declared.library_state.Phase.TheVariants.{Getting, Preparing, Committing, Aborting, Asking}
 use Rattle.dds_states.specs.declared.library_state.Request.{Request}
 use Rattle.dds_states.specs.declared.library_state.TxnNumbers.{TxnNumbers}
+use Rattle.dds_law_notice.proofs.Turns.{Said, said}
+use Rattle.dds_law_notice.proofs.Turns.Said.{begins, answers, votes, refuses, stops, nothing}
 
 -- What a library's call keeps of a refusal, and whose the letters are that it sends.
 
@@ -64,14 +66,16 @@ pub record IsAttempt (n : TxnNumbers) (next : ℕ) (txn : Txn) : Type 0 where
   pub below : txn.number < next
 
 -- a Get or Prepare is of such an attempt of the call; a library's call sends no answers, votes, refusals or notices
+abbrev pub BegunSaid : TxnNumbers → ℕ → ℕ → CallNo → Said → Type 0
+BegunSaid n next caller call (begins txn a b) = IsAttempt n next txn × (a ≡ caller) × (b ≡ call)
+BegunSaid n next caller call (answers txn a) = ⊥
+BegunSaid n next caller call (votes txn vote) = ⊥
+BegunSaid n next caller call (refuses number why) = ⊥
+BegunSaid n next caller call stops = ⊥
+BegunSaid n next caller call nothing = Unit {0}
+
 abbrev pub Begun : TxnNumbers → ℕ → ℕ → CallNo → Letter → Type 0
-Begun n next caller call (letter.Get txn a b key name stamp) = IsAttempt n next txn × (a ≡ caller) × (b ≡ call)
-Begun n next caller call (letter.Prepare txn a b bound name stamp list o) = IsAttempt n next txn × (a ≡ caller) × (b ≡ call)
-Begun n next caller call (letter.Got txn a) = ⊥
-Begun n next caller call (letter.Vote txn vote) = ⊥
-Begun n next caller call (letter.LeaseRefused number why) = ⊥
-Begun n next caller call letter.Notice = ⊥
-Begun n next caller call other = Unit {0}
+Begun n next caller call l = BegunSaid n next caller call (said l)
 
 abbrev pub AllBegun : TxnNumbers → ℕ → ℕ → CallNo → List (NodeNo × Letter) → Type 0
 AllBegun n next caller call ls = AllByRecursion (λ (p : NodeNo × Letter). Begun n next caller call p.1) ls

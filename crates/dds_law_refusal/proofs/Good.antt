@@ -28,7 +28,7 @@ use Rattle.dds_law_notice.proofs.Linked.{IsLinked, same-or-not}
 use Rattle.dds_law_notice.proofs.Nodes.{brick-here, get-set-other, get-set-same, library-here}
 use Rattle.dds_law_refusal.proofs.CallRows.{Meaning}
 use Rattle.dds_law_refusal.proofs.LibraryRows.{LibraryGoes, LibraryOk, Tied}
-use Rattle.dds_law_refusal.proofs.Lists.{all-map}
+use Rattle.dds_law_refusal.proofs.Lists.{all-map, some-is}
 use Rattle.dds_law_refusal.proofs.Meanings.{Fact, TiesLast, fact-later, library-later, meaning}
 use Rattle.dds_law_refusal.proofs.Moves.{Moved, addressed}
 
@@ -90,16 +90,13 @@ good-step o journal x at new w u g linked moved libraries bricks news =
 abbrev pub brick_in : List BrickState → ℕ → Option BrickState
 brick_in bs n = if nat_lt n 64 then slice_get bs n else None
 
-some-brick : (a b : BrickState) → Some a ≡ Some b → a ≡ b
-some-brick a b e = cc
-
 pub set-brick : (bs : List BrickState) (n k : ℕ) (t s : BrickState) → n < 64 → n < length bs → ((i : ℕ) (y : BrickState) → brick_in bs i ≡ Some y → y.number ≡ i) → t.number ≡ n → brick_in (slice_set bs n t) k ≡ Some s → s.number ≡ k
 set-brick bs n k t s low inside old own e = elim (same-or-not k n) [
   | inl same ↦
       let b : nat_lt n 64 ≡ true = grind (arith, nat_tests, low) in
       let is : brick_in (slice_set bs n t) n ≡ Some s = subst (λ i. brick_in (slice_set bs n t) i ≡ Some s) same e in
       let found : slice_get (slice_set bs n t) n ≡ Some s = sym (ap (λ c. if c then slice_get (slice_set bs n t) n else None) b) ∙ is in
-      ap (λ (y : BrickState). y.number) (sym (some-brick t s (sym (get-set-same bs n t inside) ∙ found))) ∙ own ∙ sym same
+      ap (λ (y : BrickState). y.number) (sym (some-is t s (sym (get-set-same bs n t inside) ∙ found))) ∙ own ∙ sym same
   | inr other ↦ old k s (ap (λ y. if nat_lt k 64 then y else None) (sym (get-set-other bs n k t (λ h. other (sym h)))) ∙ e)
 ]
 
@@ -114,9 +111,6 @@ good-brick o journal x n s t made w v g hl hb low inside is number linked moved 
 -- a library's turn
 abbrev pub library_in : List LibraryState → ℕ → Option LibraryState
 library_in ls n = if nat_lt n 64 then None else slice_get ls (n - 64)
-
-some-library : (a b : LibraryState) → Some a ≡ Some b → a ≡ b
-some-library a b e = cc
 
 pub set-here : (ls : List LibraryState) (n : ℕ) (t : LibraryState) → 64 ≤ n → n - 64 < length ls → library_in (slice_set ls (n - 64) t) n ≡ Some t
 set-here ls n t high inside =
@@ -136,7 +130,7 @@ set-apart ls n k t s high other e =
 pub set-library : (o : OpeningOf) (journal : List Step) (x : Step) (n : ℕ) (t : LibraryState) (w : World) → IsGood o journal w → 64 ≤ n → n - 64 < length w.libraries → LibraryStep (meaning o (Grown journal x)) w n t → (k : ℕ) (y : LibraryState) → library_in (slice_set w.libraries (n - 64) t) k ≡ Some y → LibraryStep (meaning o (Grown journal x)) w k y
 set-library o journal x n t w g high inside ready k y now = elim (same-or-not k n) [
   | inl same ↦
-      let is_t : t ≡ y = some-library t y (sym (set-here w.libraries n t high inside) ∙ subst (λ i. library_in (slice_set w.libraries (n - 64) t) i ≡ Some y) same now) in
+      let is_t : t ≡ y = some-is t y (sym (set-here w.libraries n t high inside) ∙ subst (λ i. library_in (slice_set w.libraries (n - 64) t) i ≡ Some y) same now) in
       subst (λ i. LibraryStep (meaning o (Grown journal x)) w i y) (sym same) (subst (LibraryStep (meaning o (Grown journal x)) w n) is_t ready)
   | inr other ↦ same-library o journal x w k y g (set-apart w.libraries n k t y high other now)
 ]

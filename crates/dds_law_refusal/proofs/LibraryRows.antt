@@ -20,9 +20,10 @@ use Rattle.dds_states.specs.declared.library_state.Request.{Request}
 use Rattle.dds_states.specs.declared.library_state.TxnNumbers.{TxnNumbers}
 use Rattle.dds_states.specs.declared.turn.Replied.{Replied}
 use Rattle.dds_states.specs.declared.turn.Replied.TheVariants as replied
-use Rattle.dds_law_notice.proofs.Turns.{all-append}
-use Rattle.dds_law_refusal.proofs.CallRows.{Begun, CallOk, Goes, GoesOn, IsAttempt, LetterOk, Meaning, Stays, begin, call_row}
-use Rattle.dds_law_refusal.proofs.Lists.{all-at, all-insert, all-map, all-remove}
+use Rattle.dds_law_notice.proofs.Turns.{Said, said, all-append}
+use Rattle.dds_law_notice.proofs.Turns.Said.{begins, answers, votes, refuses, stops, nothing}
+use Rattle.dds_law_refusal.proofs.CallRows.{Begun, BegunSaid, CallOk, Goes, GoesOn, IsAttempt, LetterOk, Meaning, Stays, begin, call_row}
+use Rattle.dds_law_refusal.proofs.Lists.{all-at, all-insert, all-map, all-remove, some-is}
 
 -- A library's turn: whose its open calls' attempts are, and what the calls keep of refusals.
 
@@ -45,14 +46,16 @@ pub record Tied (s : LibraryState) (txn : Txn) (caller : ℕ) (call : CallNo) : 
   pub calls : AllByRecursion (IsOf txn.number caller call) s.calls
 
 -- what a library sends
+abbrev pub SentSaid : LibraryState → Said → Type 0
+SentSaid s (begins txn caller call) = (txn.library ≡ s.number) × Tied s txn caller call
+SentSaid s (answers txn a) = ⊥
+SentSaid s (votes txn vote) = ⊥
+SentSaid s (refuses number why) = ⊥
+SentSaid s stops = ⊥
+SentSaid s nothing = Unit {0}
+
 abbrev pub SentOk : LibraryState → Letter → Type 0
-SentOk s (letter.Get txn caller call key name stamp) = (txn.library ≡ s.number) × Tied s txn caller call
-SentOk s (letter.Prepare txn caller call bound name stamp list o) = (txn.library ≡ s.number) × Tied s txn caller call
-SentOk s (letter.Got txn a) = ⊥
-SentOk s (letter.Vote txn vote) = ⊥
-SentOk s (letter.LeaseRefused number why) = ⊥
-SentOk s letter.Notice = ⊥
-SentOk s other = Unit {0}
+SentOk s l = SentSaid s (said l)
 
 -- an answer to a call
 abbrev pub IsCallReply : Replied → Type 0
@@ -82,18 +85,15 @@ fine-later : {Q : Meaning} (number next later : ℕ) (c : OpenCall) → next ≤
 fine-later number next later c h f = let b = f.below in record { library = f.library; below = omega (arith, h, b); kept = f.kept }
 
 -- an open call after its turn
-some-txn : (a b : Txn) → Some a ≡ Some b → a ≡ b
-some-txn a b e = cc
-
 fine-stays : {Q : Meaning} (n : TxnNumbers) (next caller : ℕ) (call : CallNo) (c x : OpenCall) → CallFine Q n.library n.next c → n.next ≤ next → Stays Q n next caller call (Some c.txn) x → CallFine Q n.library next x
 fine-stays n next caller call c x f h st = elim st.attempt [
-  | inl e ↦ let is = some-txn c.txn x.txn e in let b = f.below in let eq = ap (λ (t : Txn). t.number) is in record { library = ap (λ (t : Txn). t.library) (sym is) ∙ f.library; below = omega (arith, h, b, eq); kept = st.kept }
+  | inl e ↦ let is = some-is c.txn x.txn e in let b = f.below in let eq = ap (λ (t : Txn). t.number) is in record { library = ap (λ (t : Txn). t.library) (sym is) ∙ f.library; below = omega (arith, h, b, eq); kept = st.kept }
   | inr a ↦ record { library = a.library; below = a.below; kept = st.kept }
 ]
 
 tied-stays : {Q : Meaning} (n : TxnNumbers) (next caller : ℕ) (call : CallNo) (c x : OpenCall) (txn : Txn) (a : ℕ) (b : CallNo) → txn.number < n.next → IsOf txn.number a b c → caller ≡ c.request.caller → call ≡ c.request.call → Stays Q n next caller call (Some c.txn) x → IsOf txn.number a b x
 tied-stays n next caller call c x txn a b low is cr cl st e = elim st.attempt [
-  | inl same ↦ let o = is (ap (λ (t : Txn). t.number) (some-txn c.txn x.txn same) ∙ e) in (st.caller_is ∙ cr ∙ o.0, st.call_is ∙ cl ∙ o.1)
+  | inl same ↦ let o = is (ap (λ (t : Txn). t.number) (some-is c.txn x.txn same) ∙ e) in (st.caller_is ∙ cr ∙ o.0, st.call_is ∙ cl ∙ o.1)
   | inr fresh ↦ let f = fresh.from in absurd (omega (arith, low, f, e))
 ]
 
@@ -104,31 +104,13 @@ begun-tied n next caller call s rest txn a b number nexts fine calls is =
     let low = is.below in
     (is.library ∙ sym number, record { below = omega (arith, low, nexts); calls = calls (λ c g e. let g2 = g.below in absurd (omega (arith, f, g2, e))) })
 
-begun-sent : {Q : Meaning} (n : TxnNumbers) (next caller : ℕ) (call : CallNo) (s : LibraryState) (rest : List OpenCall) (l : Letter) → s.number ≡ n.library → s.next ≡ next → AllByRecursion (CallFine Q n.library n.next) rest → ((number : ℕ) (a : ℕ) (b : CallNo) → a ≡ caller → b ≡ call → ((c : OpenCall) → CallFine Q n.library n.next c → IsOf number a b c) → AllByRecursion (IsOf number a b) s.calls) → Begun n next caller call l → SentOk s l
-begun-sent n next caller call s rest (letter.Get txn a b key name stamp) number nexts fine calls h = begun-tied n next caller call s rest txn a b number nexts fine (calls txn.number a b h.1 h.2) h.0
-begun-sent n next caller call s rest (letter.Prepare txn a b bound name stamp list o) number nexts fine calls h = begun-tied n next caller call s rest txn a b number nexts fine (calls txn.number a b h.1 h.2) h.0
-begun-sent n next caller call s rest (letter.Commit txn) number nexts fine calls h = tt
-begun-sent n next caller call s rest (letter.Abort txn) number nexts fine calls h = tt
-begun-sent n next caller call s rest (letter.Push leaf) number nexts fine calls h = tt
-begun-sent n next caller call s rest (letter.MapAsk txn a b key) number nexts fine calls h = tt
-begun-sent n next caller call s rest (letter.Got txn a) number nexts fine calls h = h
-begun-sent n next caller call s rest (letter.Vote txn vote) number nexts fine calls h = h
-begun-sent n next caller call s rest (letter.Applied txn was) number nexts fine calls h = tt
-begun-sent n next caller call s rest (letter.Aborted txn) number nexts fine calls h = tt
-begun-sent n next caller call s rest (letter.MapTell txn leaf) number nexts fine calls h = tt
-begun-sent n next caller call s rest (letter.Help txn list) number nexts fine calls h = tt
-begun-sent n next caller call s rest (letter.Query txn list) number nexts fine calls h = tt
-begun-sent n next caller call s rest (letter.Status txn status) number nexts fine calls h = tt
-begun-sent n next caller call s rest (letter.Outcome txn commit) number nexts fine calls h = tt
-begun-sent n next caller call s rest (letter.Lease order what) number nexts fine calls h = tt
-begun-sent n next caller call s rest (letter.Granted order leaf) number nexts fine calls h = tt
-begun-sent n next caller call s rest (letter.LeaseRefused order why) number nexts fine calls h = h
-begun-sent n next caller call s rest (letter.Release order name) number nexts fine calls h = tt
-begun-sent n next caller call s rest (letter.CopyAsk order name after) number nexts fine calls h = tt
-begun-sent n next caller call s rest (letter.CopyPart order last pairs) number nexts fine calls h = tt
-begun-sent n next caller call s rest (letter.Install order leaf) number nexts fine calls h = tt
-begun-sent n next caller call s rest (letter.Installed order name) number nexts fine calls h = tt
-begun-sent n next caller call s rest letter.Notice number nexts fine calls h = h
+begun-sent : {Q : Meaning} (n : TxnNumbers) (next caller : ℕ) (call : CallNo) (s : LibraryState) (rest : List OpenCall) (x : Said) → s.number ≡ n.library → s.next ≡ next → AllByRecursion (CallFine Q n.library n.next) rest → ((number : ℕ) (a : ℕ) (b : CallNo) → a ≡ caller → b ≡ call → ((c : OpenCall) → CallFine Q n.library n.next c → IsOf number a b c) → AllByRecursion (IsOf number a b) s.calls) → BegunSaid n next caller call x → SentSaid s x
+begun-sent n next caller call s rest (begins txn a b) number nexts fine calls h = begun-tied n next caller call s rest txn a b number nexts fine (calls txn.number a b h.1 h.2) h.0
+begun-sent n next caller call s rest (answers txn a) number nexts fine calls h = h
+begun-sent n next caller call s rest (votes txn vote) number nexts fine calls h = h
+begun-sent n next caller call s rest (refuses order why) number nexts fine calls h = h
+begun-sent n next caller call s rest stops number nexts fine calls h = h
+begun-sent n next caller call s rest nothing number nexts fine calls h = tt
 
 -- the calls with one put back
 put-all : (P : OpenCall → Type 0) (rest : List OpenCall) (place : ℕ) (o : Option OpenCall) → AllByRecursion P rest → ((x : OpenCall) → o ≡ Some x → P x) → AllByRecursion P (turns.put_back rest place o)
@@ -153,7 +135,7 @@ call-goes {Q = Q} s place c t is ok g =
             below = omega (arith, low, more);
             calls = put-all (IsOf txn.number a b) rest place t.went.call (all-remove (IsOf txn.number a b) s.calls place tie.calls) (λ x e. tied-stays n next c.request.caller c.request.call c x txn a b low (all-at (IsOf txn.number a b) s.calls place c is tie.calls) refl refl (stays x e));
           };
-      letters = all-map (λ (p : NodeNo × Letter). Begun n next c.request.caller c.request.call p.1) _ t.went.letters (λ p h. begun-sent n next c.request.caller c.request.call _ rest p.1 refl refl others (λ number a b ea eb f. put-all (IsOf number a b) rest place t.went.call (all-map (CallFine Q s.number s.next) (IsOf number a b) rest f others) (λ x e w. ((stays x e).caller_is ∙ sym ea, (stays x e).call_is ∙ sym eb))) h) g.letters;
+      letters = all-map (λ (p : NodeNo × Letter). Begun n next c.request.caller c.request.call p.1) _ t.went.letters (λ p h. begun-sent n next c.request.caller c.request.call _ rest (said p.1) refl refl others (λ number a b ea eb f. put-all (IsOf number a b) rest place t.went.call (all-map (CallFine Q s.number s.next) (IsOf number a b) rest f others) (λ x e w. ((stays x e).caller_is ∙ sym ea, (stays x e).call_is ∙ sym eb))) h) g.letters;
       replies = call-replies c.request.caller c.request.call c.txn t.went.reply;
     }
 
@@ -176,7 +158,7 @@ input-turn {Q = Q} s r t ok g =
       ties = λ txn a b tie.
           let low = tie.below in
           record { below = omega (arith, low, more); calls = put (IsOf txn.number a b) tie.calls (λ x e w. let f = (new x e).from in absurd (omega (arith, low, f, w))) };
-      letters = all-map (λ (p : NodeNo × Letter). Begun n next r.caller r.call p.1) _ t.went.letters (λ p h. begun-sent n next r.caller r.call _ s.calls p.1 refl refl ok (λ number a b ea eb f. put (IsOf number a b) (all-map (CallFine Q s.number s.next) (IsOf number a b) s.calls f ok) (λ x e w. ((stays x e).caller_is ∙ sym ea, (stays x e).call_is ∙ sym eb))) h) g.letters;
+      letters = all-map (λ (p : NodeNo × Letter). Begun n next r.caller r.call p.1) _ t.went.letters (λ p h. begun-sent n next r.caller r.call _ s.calls (said p.1) refl refl ok (λ number a b ea eb f. put (IsOf number a b) (all-map (CallFine Q s.number s.next) (IsOf number a b) s.calls f ok) (λ x e w. ((stays x e).caller_is ∙ sym ea, (stays x e).call_is ∙ sym eb))) h) g.letters;
       replies = call-replies r.caller r.call _ t.went.reply;
     }
 
@@ -226,31 +208,13 @@ at-attempt {Q = Q} s from l None ok h = keeps Q s ok
 at-attempt s from l (Some txn) ok h = at-place s from l txn (turns.call_place s.calls txn) ok refl (λ c at is e. h c at is (ap (λ t. Some t) (sym e)))
 
 -- what was sent before is as it was after what comes next
-sent-later : (s t : LibraryState) (l : Letter) → t.number ≡ s.number → ((txn : Txn) (caller : ℕ) (call : CallNo) → Tied s txn caller call → Tied t txn caller call) → SentOk s l → SentOk t l
-sent-later s t (letter.Get txn a b key name stamp) e f h = (h.0 ∙ sym e, f txn a b h.1)
-sent-later s t (letter.Prepare txn a b bound name stamp list o) e f h = (h.0 ∙ sym e, f txn a b h.1)
-sent-later s t (letter.Commit txn) e f h = tt
-sent-later s t (letter.Abort txn) e f h = tt
-sent-later s t (letter.Push leaf) e f h = tt
-sent-later s t (letter.MapAsk txn a b key) e f h = tt
-sent-later s t (letter.Got txn a) e f h = h
-sent-later s t (letter.Vote txn vote) e f h = h
-sent-later s t (letter.Applied txn was) e f h = tt
-sent-later s t (letter.Aborted txn) e f h = tt
-sent-later s t (letter.MapTell txn leaf) e f h = tt
-sent-later s t (letter.Help txn list) e f h = tt
-sent-later s t (letter.Query txn list) e f h = tt
-sent-later s t (letter.Status txn status) e f h = tt
-sent-later s t (letter.Outcome txn commit) e f h = tt
-sent-later s t (letter.Lease number what) e f h = tt
-sent-later s t (letter.Granted number leaf) e f h = tt
-sent-later s t (letter.LeaseRefused number why) e f h = h
-sent-later s t (letter.Release number name) e f h = tt
-sent-later s t (letter.CopyAsk number name after) e f h = tt
-sent-later s t (letter.CopyPart number last pairs) e f h = tt
-sent-later s t (letter.Install number leaf) e f h = tt
-sent-later s t (letter.Installed number name) e f h = tt
-sent-later s t letter.Notice e f h = h
+sent-later : (s t : LibraryState) (x : Said) → t.number ≡ s.number → ((txn : Txn) (caller : ℕ) (call : CallNo) → Tied s txn caller call → Tied t txn caller call) → SentSaid s x → SentSaid t x
+sent-later s t (begins txn a b) e f h = (h.0 ∙ sym e, f txn a b h.1)
+sent-later s t (answers txn a) e f h = h
+sent-later s t (votes txn vote) e f h = h
+sent-later s t (refuses number why) e f h = h
+sent-later s t stops e f h = h
+sent-later s t nothing e f h = tt
 
 notice-calls : {Q : Meaning} (s : LibraryState) (y : NodeNo) (txns : List Txn) → LibraryOk Q s → LibraryGoes Q s (turns.notice_calls s y txns)
 notice-calls {Q = Q} s y [] ok = keeps Q s ok
@@ -263,7 +227,7 @@ notice-calls {Q = Q} s y (txn ∷ txns) ok =
       number = g.number ∙ h.number;
       ok = g.ok;
       ties = λ x a b tie. g.ties x a b (h.ties x a b tie);
-      letters = all-append _ t.out.letters u.out.letters (all-map (λ (p : NodeNo × Letter). SentOk t.state p.1) (λ (p : NodeNo × Letter). SentOk u.state p.1) t.out.letters (λ p k. sent-later t.state u.state p.1 g.number g.ties k) h.letters) g.letters;
+      letters = all-append _ t.out.letters u.out.letters (all-map (λ (p : NodeNo × Letter). SentOk t.state p.1) (λ (p : NodeNo × Letter). SentOk u.state p.1) t.out.letters (λ p k. sent-later t.state u.state (said p.1) g.number g.ties k) h.letters) g.letters;
       replies = all-append IsCallReply t.out.replies u.out.replies h.replies g.replies;
     }
 

@@ -21,16 +21,15 @@ use Rattle.dds_states.specs.declared.turn.Replied.TheVariants as replied
 use Rattle.dds_world.specs.Refusals.CallWasRefused.{of_get}
 use Rattle.dds_world.specs.World.{World, library_at}
 use Rattle.dds_world.specs.declared.step.Step.{Step}
+use Rattle.dds_law_notice.proofs.Turns.{Said, said}
+use Rattle.dds_law_notice.proofs.Turns.Said.{begins, answers, votes, refuses, stops, nothing}
 use Rattle.dds_law_refusal.proofs.CallRows.{LetterOk}
 use Rattle.dds_law_refusal.proofs.Good.{Grown, IsGood, ReplyOk}
-use Rattle.dds_law_refusal.proofs.LibraryRows.{CallFine, IsCallReply, IsOf, LibraryGoes, SentOk, Tied, input-goes, library-goes}
-use Rattle.dds_law_refusal.proofs.Lists.{all-at, all-map}
-use Rattle.dds_law_refusal.proofs.Meanings.{AnswerFact, Fact, TiedIn, VoteFact, get-later, library-later, meaning, update-later, was-met}
+use Rattle.dds_law_refusal.proofs.LibraryRows.{CallFine, IsCallReply, IsOf, LibraryGoes, SentOk, SentSaid, Tied, input-goes, library-goes}
+use Rattle.dds_law_refusal.proofs.Lists.{all-at, all-map, some-is}
+use Rattle.dds_law_refusal.proofs.Meanings.{AnswerFact, Fact, SaidFact, TiedIn, VoteFact, get-later, library-later, meaning, update-later, was-met}
 
 -- What a library keeps and sends is so.
-
-some-txn : (a b : Txn) → Some a ≡ Some b → a ≡ b
-some-txn a b e = cc
 
 -- the open call with an attempt that is tied to a call is that call
 tied-call : (s : LibraryState) (c : OpenCall) (at : ℕ) (txn : Txn) (caller : ℕ) (call : CallNo) → slice_get s.calls at ≡ Some c → c.txn ≡ txn → Tied s txn caller call → (c.request.caller ≡ caller) × (c.request.call ≡ call)
@@ -65,8 +64,8 @@ letter-ok o journal x w n s c at from to (letter.Commit txn) g there is e f = tt
 letter-ok o journal x w n s c at from to (letter.Abort txn) g there is e f = tt
 letter-ok o journal x w n s c at from to (letter.Push leaf) g there is e f = tt
 letter-ok o journal x w n s c at from to (letter.MapAsk txn caller call key) g there is e f = tt
-letter-ok o journal x w n s c at from to (letter.Got txn a) g there is e f = answer-ok o journal x w n s c at from txn a g there is (sym (some-txn txn c.txn e)) f
-letter-ok o journal x w n s c at from to (letter.Vote txn vote) g there is e f = vote-ok o journal x w n s c at from txn vote g there is (sym (some-txn txn c.txn e)) f
+letter-ok o journal x w n s c at from to (letter.Got txn a) g there is e f = answer-ok o journal x w n s c at from txn a g there is (sym (some-is txn c.txn e)) f
+letter-ok o journal x w n s c at from to (letter.Vote txn vote) g there is e f = vote-ok o journal x w n s c at from txn vote g there is (sym (some-is txn c.txn e)) f
 letter-ok o journal x w n s c at from to (letter.Applied txn was) g there is e f = tt
 letter-ok o journal x w n s c at from to (letter.Aborted txn) g there is e f = tt
 letter-ok o journal x w n s c at from to (letter.MapTell txn leaf) g there is e f = tt
@@ -85,42 +84,21 @@ letter-ok o journal x w n s c at from to (letter.Installed number name) g there 
 letter-ok o journal x w n s c at from to letter.Notice g there is e f = tt
 
 -- what a library sends
-some-library : (a b : LibraryState) → Some a ≡ Some b → a ≡ b
-some-library a b e = cc
-
 tied-now : (u : World) (n : ℕ) (t : LibraryState) (txn : Txn) (caller : ℕ) (call : CallNo) → library_at u n ≡ Some t → t.number ≡ n → txn.library ≡ t.number → Tied t txn caller call → TiedIn u txn caller call
 tied-now u n t txn caller call here number own tie s e =
     let same : txn.library ≡ n = own ∙ number in
-    subst (λ (y : LibraryState). Tied y txn caller call) (some-library t s (sym here ∙ subst (λ i. library_at u i ≡ Some s) same e)) tie
+    subst (λ (y : LibraryState). Tied y txn caller call) (some-is t s (sym here ∙ subst (λ i. library_at u i ≡ Some s) same e)) tie
 
-sent-fact : (o : OpeningOf) (journal : List Step) (u : World) (n : ℕ) (t : LibraryState) (from : ℕ) (to : NodeNo) (l : Letter) → library_at u n ≡ Some t → t.number ≡ n → SentOk t l → Fact o.bricks o journal u from to l
-sent-fact o journal u n t from to (letter.Get txn caller call key name stamp) here number h = tied-now u n t txn caller call here number h.0 h.1
-sent-fact o journal u n t from to (letter.Prepare txn caller call bound name stamp list op) here number h = tied-now u n t txn caller call here number h.0 h.1
-sent-fact o journal u n t from to (letter.Commit txn) here number h = tt
-sent-fact o journal u n t from to (letter.Abort txn) here number h = tt
-sent-fact o journal u n t from to (letter.Push leaf) here number h = tt
-sent-fact o journal u n t from to (letter.MapAsk txn caller call key) here number h = tt
-sent-fact o journal u n t from to (letter.Got txn a) here number h = absurd h
-sent-fact o journal u n t from to (letter.Vote txn vote) here number h = absurd h
-sent-fact o journal u n t from to (letter.Applied txn was) here number h = tt
-sent-fact o journal u n t from to (letter.Aborted txn) here number h = tt
-sent-fact o journal u n t from to (letter.MapTell txn leaf) here number h = tt
-sent-fact o journal u n t from to (letter.Help txn list) here number h = tt
-sent-fact o journal u n t from to (letter.Query txn list) here number h = tt
-sent-fact o journal u n t from to (letter.Status txn status) here number h = tt
-sent-fact o journal u n t from to (letter.Outcome txn commit) here number h = tt
-sent-fact o journal u n t from to (letter.Lease order what) here number h = tt
-sent-fact o journal u n t from to (letter.Granted order leaf) here number h = tt
-sent-fact o journal u n t from to (letter.LeaseRefused order why) here number h = absurd h
-sent-fact o journal u n t from to (letter.Release order name) here number h = tt
-sent-fact o journal u n t from to (letter.CopyAsk order name after) here number h = tt
-sent-fact o journal u n t from to (letter.CopyPart order last_part pairs) here number h = tt
-sent-fact o journal u n t from to (letter.Install order leaf) here number h = tt
-sent-fact o journal u n t from to (letter.Installed order name) here number h = tt
-sent-fact o journal u n t from to letter.Notice here number h = absurd h
+sent-fact : (o : OpeningOf) (journal : List Step) (u : World) (n : ℕ) (t : LibraryState) (from : ℕ) (to : NodeNo) (x : Said) → library_at u n ≡ Some t → t.number ≡ n → SentSaid t x → SaidFact o.bricks o journal u from to x
+sent-fact o journal u n t from to (begins txn caller call) here number h = tied-now u n t txn caller call here number h.0 h.1
+sent-fact o journal u n t from to (answers txn a) here number h = absurd h
+sent-fact o journal u n t from to (votes txn vote) here number h = absurd h
+sent-fact o journal u n t from to (refuses order why) here number h = absurd h
+sent-fact o journal u n t from to stops here number h = absurd h
+sent-fact o journal u n t from to nothing here number h = tt
 
 pub all-sent-fact : (o : OpeningOf) (journal : List Step) (u : World) (n : ℕ) (t : LibraryState) (from : ℕ) (ls : List (NodeNo × Letter)) → library_at u n ≡ Some t → t.number ≡ n → AllByRecursion (λ (p : NodeNo × Letter). SentOk t p.1) ls → AllByRecursion (λ (p : NodeNo × Letter). Fact o.bricks o journal u from p.0 p.1) ls
-all-sent-fact o journal u n t from ls here number h = all-map (λ (p : NodeNo × Letter). SentOk t p.1) (λ (p : NodeNo × Letter). Fact o.bricks o journal u from p.0 p.1) ls (λ p k. sent-fact o journal u n t from p.0 p.1 here number k) h
+all-sent-fact o journal u n t from ls here number h = all-map (λ (p : NodeNo × Letter). SentOk t p.1) (λ (p : NodeNo × Letter). Fact o.bricks o journal u from p.0 p.1) ls (λ p k. sent-fact o journal u n t from p.0 (said p.1) here number k) h
 
 -- a library's answers are to calls
 call-fact : (o : OpeningOf) (journal : List Step) (at : ℕ) (r : Replied) → IsCallReply r → ReplyOk o journal at r

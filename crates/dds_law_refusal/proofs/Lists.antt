@@ -4,6 +4,9 @@ use Rattle.std.specs.Prelude.{slice_get}
 
 -- What holds of each element of a list.
 
+pub some-is : {X : Type 0} (a b : X) → Some a ≡ Some b → a ≡ b
+some-is a b e = cc
+
 pub all-map : {X : Type 0} (P Q : X → Type 0) (xs : List X) → ((x : X) → P x → Q x) → AllByRecursion P xs → AllByRecursion Q xs
 all-map P Q [] f h = tt
 all-map P Q (x ∷ xs) f h = (f x h.0, all-map P Q xs f h.1)

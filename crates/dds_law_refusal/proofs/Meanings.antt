@@ -1,4 +1,4 @@
-use Rattle.std.proofs.Common.{◌≡◌, ℕ, zero, suc, ◌<◌, ◌≤◌, Some, List, [], ◌∷◌, ◌++◌, length, refl, ap, ◌∙◌, arith}
+use Rattle.std.proofs.Common.{◌≡◌, ℕ, ◌≤◌, Some, List, ◌++◌, length, refl, ap, ◌∙◌, arith}
 use Rattle.std.proofs.lemmas.List.{take-append-le}
 use Rattle.std.proofs.lemmas.Option.{slice_get_within}
 use Rattle.std.specs.Prelude.{slice_get}
@@ -8,7 +8,6 @@ use Rattle.dds_base.specs.declared.number.NodeNo.{NodeNo}
 use Rattle.dds_base.specs.declared.op.Met.{Met}
 use Rattle.dds_base.specs.declared.op.Met.TheVariants as met
 use Rattle.dds_letters.specs.declared.letter.Letter.{Letter}
-use Rattle.dds_letters.specs.declared.letter.Letter.TheVariants as letter
 use Rattle.dds_letters.specs.declared.refusal.Answer.{Answer}
 use Rattle.dds_letters.specs.declared.refusal.Answer.TheVariants as answer
 use Rattle.dds_letters.specs.declared.refusal.Ballot.{Ballot}
@@ -31,16 +30,14 @@ use Rattle.dds_world.specs.Trace.{run_of}
 use Rattle.dds_world.specs.World.{World, brick_at, library_at, link}
 use Rattle.dds_world.specs.declared.step.Step.{Step}
 use Rattle.dds_law_notice.proofs.Channels.{node_of, place_in}
+use Rattle.dds_law_notice.proofs.Facts.{front-has}
+use Rattle.dds_law_notice.proofs.Turns.{Said, said}
+use Rattle.dds_law_notice.proofs.Turns.Said.{begins, answers, votes, refuses, stops, nothing}
 use Rattle.dds_law_refusal.proofs.CallRows.{Meaning, PhaseOk}
 use Rattle.dds_law_refusal.proofs.LibraryRows.{CallFine, LibraryOk, Tied}
 use Rattle.dds_law_refusal.proofs.Lists.{all-map}
 
 -- What was done stays done as a journal grows.
-
-pub front-has : {X : Type 0} (xs ys : List X) (at : ℕ) → at < length xs → slice_get (xs ++ ys) at ≡ slice_get xs at
-front-has [] ys at h = absurd (omega (arith, h))
-front-has (x ∷ xs) ys zero h = refl
-front-has (x ∷ xs) ys (suc at) h = front-has xs ys at (omega (arith, h))
 
 pub world-later : (o : OpeningOf) (journal more : List Step) (at : ℕ) → at ≤ length journal → world_at o (journal ++ more) at ≡ world_at o journal at
 world-later o journal more at h = ap (λ (steps : List Step). (run_of o steps).world) (take-append-le at journal more h)
@@ -136,13 +133,16 @@ abbrev pub VoteFact : OpeningOf → List Step → World → ℕ → Txn → Ball
 VoteFact o journal w from txn ballot.Yes = Unit {0}
 VoteFact o journal w from txn (ballot.No why) = (was : UpdateWasDenied o journal from txn why) × TiedIn w txn was.caller was.call
 
+abbrev pub SaidFact : ℕ → OpeningOf → List Step → World → ℕ → ℕ → Said → Type 0
+SaidFact b o journal w from to (begins txn caller call) = TiedIn w txn caller call
+SaidFact b o journal w from to (answers txn a) = AnswerFact o journal w from txn a
+SaidFact b o journal w from to (votes txn vote) = VoteFact o journal w from txn vote
+SaidFact b o journal w from to (refuses number why) = (node_of b (place_in b to) ≡ to) × LeaseWasRefused o journal from to number why
+SaidFact b o journal w from to stops = Unit {0}
+SaidFact b o journal w from to nothing = Unit {0}
+
 abbrev pub Fact : ℕ → OpeningOf → List Step → World → ℕ → ℕ → Letter → Type 0
-Fact b o journal w from to (letter.Get txn caller call key name stamp) = TiedIn w txn caller call
-Fact b o journal w from to (letter.Prepare txn caller call bound name stamp list op) = TiedIn w txn caller call
-Fact b o journal w from to (letter.Got txn a) = AnswerFact o journal w from txn a
-Fact b o journal w from to (letter.Vote txn vote) = VoteFact o journal w from txn vote
-Fact b o journal w from to (letter.LeaseRefused number why) = (node_of b (place_in b to) ≡ to) × LeaseWasRefused o journal from to number why
-Fact b o journal w from to other = Unit {0}
+Fact b o journal w from to l = SaidFact b o journal w from to (said l)
 
 -- it stays so as libraries go on
 abbrev pub TiesLast : World → World → Type 0
@@ -157,28 +157,13 @@ vote-later : (o : OpeningOf) (journal more : List Step) (w u : World) (from : �
 vote-later o journal more w u from txn ballot.Yes f h = tt
 vote-later o journal more w u from txn (ballot.No why) f h = (update-later o journal more from txn why h.0, f txn h.0.caller h.0.call h.1)
 
+said-later : (b : ℕ) (o : OpeningOf) (journal more : List Step) (w u : World) (from to : ℕ) (x : Said) → TiesLast w u → SaidFact b o journal w from to x → SaidFact b o (journal ++ more) u from to x
+said-later b o journal more w u from to (begins txn caller call) f h = f txn caller call h
+said-later b o journal more w u from to (answers txn a) f h = answer-later o journal more w u from txn a f h
+said-later b o journal more w u from to (votes txn vote) f h = vote-later o journal more w u from txn vote f h
+said-later b o journal more w u from to (refuses number why) f h = (h.0, lease-later o journal more from to number why h.1)
+said-later b o journal more w u from to stops f h = tt
+said-later b o journal more w u from to nothing f h = tt
+
 pub fact-later : (b : ℕ) (o : OpeningOf) (journal more : List Step) (w u : World) (from to : ℕ) (l : Letter) → TiesLast w u → Fact b o journal w from to l → Fact b o (journal ++ more) u from to l
-fact-later b o journal more w u from to (letter.Get txn caller call key name stamp) f h = f txn caller call h
-fact-later b o journal more w u from to (letter.Prepare txn caller call bound name stamp list op) f h = f txn caller call h
-fact-later b o journal more w u from to (letter.Commit txn) f h = tt
-fact-later b o journal more w u from to (letter.Abort txn) f h = tt
-fact-later b o journal more w u from to (letter.Push leaf) f h = tt
-fact-later b o journal more w u from to (letter.MapAsk txn caller call key) f h = tt
-fact-later b o journal more w u from to (letter.Got txn a) f h = answer-later o journal more w u from txn a f h
-fact-later b o journal more w u from to (letter.Vote txn vote) f h = vote-later o journal more w u from txn vote f h
-fact-later b o journal more w u from to (letter.Applied txn was) f h = tt
-fact-later b o journal more w u from to (letter.Aborted txn) f h = tt
-fact-later b o journal more w u from to (letter.MapTell txn leaf) f h = tt
-fact-later b o journal more w u from to (letter.Help txn list) f h = tt
-fact-later b o journal more w u from to (letter.Query txn list) f h = tt
-fact-later b o journal more w u from to (letter.Status txn status) f h = tt
-fact-later b o journal more w u from to (letter.Outcome txn commit) f h = tt
-fact-later b o journal more w u from to (letter.Lease number what) f h = tt
-fact-later b o journal more w u from to (letter.Granted number leaf) f h = tt
-fact-later b o journal more w u from to (letter.LeaseRefused number why) f h = (h.0, lease-later o journal more from to number why h.1)
-fact-later b o journal more w u from to (letter.Release number name) f h = tt
-fact-later b o journal more w u from to (letter.CopyAsk number name after) f h = tt
-fact-later b o journal more w u from to (letter.CopyPart number last pairs) f h = tt
-fact-later b o journal more w u from to (letter.Install number leaf) f h = tt
-fact-later b o journal more w u from to (letter.Installed number name) f h = tt
-fact-later b o journal more w u from to letter.Notice f h = tt
+fact-later b o journal more w u from to l f h = said-later b o journal more w u from to (said l) f h

@@ -18,13 +18,14 @@ use Rattle.dds_world.specs.Turn.{turn}
 use Rattle.dds_world.specs.World.{library_at, new_bricks, new_libraries}
 use Rattle.dds_world.specs.declared.step.Step.{Step}
 use Rattle.dds_world.specs.declared.trace.Trace.{Trace}
+use Rattle.dds_law_notice.proofs.Facts.{front-has}
 use Rattle.dds_law_notice.proofs.Inputs.{brick-found, library-found}
 use Rattle.dds_law_notice.proofs.Runs.{both-left, both-right, next-is, nothing-sent, start-linked}
 use Rattle.dds_law_notice.proofs.Stopping.{library-high}
 use Rattle.dds_law_refusal.proofs.Good.{Grown, IsGood, OnItsWay, ReplyOk, last-is}
 use Rattle.dds_law_refusal.proofs.LibraryRows.{LibraryOk}
-use Rattle.dds_law_refusal.proofs.Lists.{all-at}
-use Rattle.dds_law_refusal.proofs.Meanings.{front-has, meaning, order-later}
+use Rattle.dds_law_refusal.proofs.Lists.{all-at, some-is}
+use Rattle.dds_law_refusal.proofs.Meanings.{meaning, order-later}
 use Rattle.dds_law_refusal.proofs.Steps.{StepOk, step-ok}
 
 -- The invariant holds along each run.
@@ -51,9 +52,6 @@ old-or-last n at h = elim (nat_lt at n) as (λ b. nat_lt at n ≡ b → (at < n)
   | false ↦ λ e. let no : n ≤ at = grind (arith, nat_tests, e) in inr (omega (arith, h, no))
 ] refl
 
-some-step : (x y : Step) → Some x ≡ Some y → x ≡ y
-some-step x y e = cc
-
 orders-grow : (o : OpeningOf) (journal : List Step) (x : Step) → is_possible (run_of o journal) x ≡ true → OrdersWereMet o journal → StepOk o journal x (turn (run_of o journal).steps (run_of o journal).world x) → OrdersWereMet o (Grown journal x)
 orders-grow o journal x possible old now at place y m is told =
     let inside = slice_get_within (Grown journal x) at y is in
@@ -63,7 +61,7 @@ orders-grow o journal x possible old now at place y m is told =
           order-later o journal (x ∷ []) at m
           (old at place y m (sym (front-has journal (x ∷ []) at before) ∙ is) (ap (λ (steps : List Step). slice_get (replies_in (run_of o steps) y) place) (sym (take-append-le at journal (x ∷ []) (omega (arith, before)))) ∙ told))
       | inr same ↦
-          let is_x : x ≡ y = some-step x y (sym (last-is journal x) ∙ ap (slice_get (Grown journal x)) (sym same) ∙ is) in
+          let is_x : x ≡ y = some-is x y (sym (last-is journal x) ∙ ap (slice_get (Grown journal x)) (sym same) ∙ is) in
           let here : slice_get (replies_in (run_of o journal) x) place ≡ Some (replied.Order (answered.Refused m)) =
           ap (λ k. slice_get (replies_in (run_of o journal) k) place) is_x ∙ ap (λ (steps : List Step). slice_get (replies_in (run_of o steps) y) place) (sym (ap (λ k. take k (Grown journal x)) same ∙ take-append_seam journal (x ∷ []))) ∙ told in
           subst (λ k. OrderWasRefused o (Grown journal x) k m) (sym same)
@@ -87,23 +85,17 @@ run-kept o (x ∷ steps) journal few some k r =
     (run-kept o steps (Grown journal x) few some (kept-grows o journal x few some k possible) (subst (λ (t : Trace). is_run_from t steps ≡ true) (sym (trace-grown (start o) journal x)) rest))
 
 -- the opening
-some-brick : (a b : BrickState) → Some a ≡ Some b → a ≡ b
-some-brick a b e = cc
-
-some-library : (a b : LibraryState) → Some a ≡ Some b → a ≡ b
-some-library a b e = cc
-
 nothing-at : (at : ℕ) (x : Step) → slice_get [] at ≡ Some x → ⊥
 nothing-at at x e = cc
 
 new-brick : (leaves : List Leaf) (k n i : ℕ) (s : BrickState) → slice_get (new_bricks leaves k n) i ≡ Some s → s.number ≡ n + i
 new-brick leaves zero n i s e = cc
-new-brick leaves (suc k) n zero s e = ap (λ (y : BrickState). y.number) (sym (some-brick _ s e)) ∙ omega arith
+new-brick leaves (suc k) n zero s e = ap (λ (y : BrickState). y.number) (sym (some-is _ s e)) ∙ omega arith
 new-brick leaves (suc k) n (suc i) s e = new-brick leaves k (n + 1) i s e ∙ omega arith
 
 new-library : (o : OpeningOf) (k n i : ℕ) (s : LibraryState) → slice_get (new_libraries o k n) i ≡ Some s → (s.number ≡ 64 + n + i) × (s.calls ≡ [])
 new-library o zero n i s e = cc
-new-library o (suc k) n zero s e = let is = some-library _ s e in (ap (λ (y : LibraryState). y.number) (sym is) ∙ omega arith, ap (λ (y : LibraryState). y.calls) (sym is))
+new-library o (suc k) n zero s e = let is = some-is _ s e in (ap (λ (y : LibraryState). y.number) (sym is) ∙ omega arith, ap (λ (y : LibraryState). y.calls) (sym is))
 new-library o (suc k) n (suc i) s e = let h = new-library o k (n + 1) i s e in (h.0 ∙ omega arith, h.1)
 
 start-library : (o : OpeningOf) (n : ℕ) (s : LibraryState) → library_at (start o).world n ≡ Some s → (s.number ≡ n) × LibraryOk (meaning o []) s
