@@ -2,7 +2,7 @@ use Rattle.std.specs.Prelude.{ℕ, ◌≡◌, ◌≤◌, ◌⊎◌, true, String
 use Rattle.dds_base.specs.Outside.{Took, IsEnded, Added, AddedPart, Rose, TookPast, TookWithin, line_ends}
 use Rattle.dds_script.specs.Grammar.{AcceptsBy, IsFirstFaultBy}
 use Rattle.dds_script.specs.declared.form.Runs.TheVariants.{FirstPath}
-use Rattle.dds_script.specs.Text.{report_text}
+use Rattle.dds_transcript.specs.Text.{report_text}
 use Rattle.dds_script.specs.Opening.{ScriptOf as Script}
 use Rattle.dds_world.specs.Trace.{is_run, run_of}
 use Rattle.dds_world.specs.Stands.{Stands}

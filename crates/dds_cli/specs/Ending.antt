@@ -2,9 +2,9 @@ use Rattle.std.specs.Prelude.{ℕ, ◌≡◌, ◌⊎◌, true, List, [], Option}
 use Rattle.dds_base.specs.Outside.{Added, AddedPart, Rose}
 use Rattle.dds_script.specs.Grammar.{IsFirstFaultBy}
 use Rattle.dds_script.specs.declared.form.Runs.TheVariants.{FirstPath}
-use Rattle.dds_script.specs.Text.{report_text}
+use Rattle.dds_transcript.specs.Text.{report_text}
 use Rattle.dds_script.specs.Opening.{ScriptOf as Script}
-use Rattle.dds_script.specs.declared.report_line.ReportLine.{ReportLine}
+use Rattle.dds_transcript.specs.declared.report_line.ReportLine.{ReportLine}
 use Rattle.dds_world.specs.Trace.{is_run, run_of}
 use Rattle.dds_world.specs.Stands.{Stands}
 use Rattle.dds_world.specs.declared.step.Step.{Step}

@@ -19,7 +19,7 @@ use dds_ends::end::End;
 use dds_law_commit::laws::{answers_are_caused, runs_stand};
 use dds_script::opening::Script;
 use dds_script::read_script::read_first_script;
-use dds_script::report_line::ReportLine;
+use dds_transcript::report_line::ReportLine;
 use dds_script::script_error::ScriptError;
 use dds_walk::laws::{steps_are_plain, steps_run};
 use dds_walk::reports::{plain_steps, report};

@@ -2,8 +2,8 @@
 use Rattle.std.specs.Prelude.{ℕ, ◌≡◌, ◌≤◌, String, List, [], ◌∷◌, length, codes, Option}
 use Rattle.std.specs.String.{string_bytes}
 use Rattle.dds_base.specs.Outside.{Took, IsEnded, Added, AddedPart, Rose, line_ends}
-use Rattle.dds_script.specs.Text.{report_text}
-use Rattle.dds_script.specs.declared.report_line.ReportLine.{ReportLine}
+use Rattle.dds_transcript.specs.Text.{report_text}
+use Rattle.dds_transcript.specs.declared.report_line.ReportLine.{ReportLine}
 use Rattle.dds_ends.specs.declared.end.End.{End}
 use Rattle.dds_ends.specs.declared.end.End.TheVariants.{Finished, Usage, TooLong, ReadFault, Script, WriteFault, Memory}
 use Rattle.dds_ends.specs.declared.command.TheConstants.{BYTES, LINES}

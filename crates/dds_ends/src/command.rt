@@ -5,8 +5,8 @@ ghost use Rattle.dds_ends.specs.End.{IsStepCommand, IsWritten};
 
 use crate::end::End;
 use dds_base::sink::Sink;
-use dds_script::report_line::ReportLine;
-use dds_script::write_lines::{WriteEnd, write_lines};
+use dds_transcript::report_line::ReportLine;
+use dds_transcript::write_lines::{WriteEnd, write_lines};
 use std::alloc::Global;
 
 /// The most bytes of a script.

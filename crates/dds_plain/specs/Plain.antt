@@ -7,7 +7,7 @@ use Rattle.dds_ends.specs.declared.end.End.{End}
 use Rattle.dds_ends.specs.declared.end.End.TheVariants.{Finished, Usage, TooLong, ReadFault, Script, WriteFault, Memory}
 use Rattle.dds_script.specs.Grammar.{Accepts, IsFirstFaultBy}
 use Rattle.dds_script.specs.Opening.{ScriptOf}
-use Rattle.dds_script.specs.Text.{report_text}
+use Rattle.dds_transcript.specs.Text.{report_text}
 use Rattle.dds_script.specs.declared.form.Runs.TheVariants.{All}
 use Rattle.dds_walk.specs.Walk.{steps, transcript}
 

@@ -3,10 +3,10 @@
 use dds_base::number::{CallNo, CallerNo, NodeNo};
 use dds_base::op::Reply;
 use dds_ends::command::BYTES;
-use dds_script::line_text::line_text;
+use dds_transcript::line_text::line_text;
 use dds_script::opening::Script;
 use dds_script::read_script::read_script;
-use dds_script::report_line::ReportLine;
+use dds_transcript::report_line::ReportLine;
 use dds_walk::reports::plain_steps;
 use dds_world::runs::{calls, history, is_run};
 use dds_world::step::{Journal, Step};

@@ -13,11 +13,9 @@ pub mod Lists
 pub mod Marks
 pub mod NoLine
 pub mod Numbers
-pub mod Pieces
 pub mod SameLine
 pub mod Spelled
 pub mod Taking
 pub mod Texts
 pub mod Unique
 pub mod WordFacts
-pub mod Writing

@@ -10,4 +10,3 @@ pub mod Lines
 pub mod Grammar
 pub mod Sound
 pub mod Text
-pub mod Writing

@@ -4,7 +4,7 @@ use Rattle.std.proofs.lemmas.Grind.{common_steps}
 use Rattle.dds_base.specs.declared.leaf.Leaf.{Leaf}
 use Rattle.dds_base.specs.declared.number.NodeNo.{NodeNo}
 use Rattle.dds_history.specs.Map.{Map}
-use Rattle.dds_script.specs.declared.report_line.ReportLine.{ReportLine}
+use Rattle.dds_transcript.specs.declared.report_line.ReportLine.{ReportLine}
 use Rattle.dds_walk.specs.Walk.{leaf_line, leaf_lines}
 
 pub leaves-more : (pairs : Map) (brick : NodeNo) (lines new whole : List ReportLine) (ls : List Leaf) (i : ℕ) (x : Leaf) (y : ReportLine) → i < length ls → x ≡ get_or ls i x → y ≡ leaf_line pairs brick x → new ≡ lines ++ y ∷ [] → lines ++ leaf_lines pairs brick (drop i ls) ≡ whole → new ++ leaf_lines pairs brick (drop (i + 1) ls) ≡ whole

@@ -10,7 +10,7 @@ use Rattle.dds_base.specs.declared.op.Op.{Op}
 use Rattle.dds_script.specs.Opening.{ScriptOf}
 use Rattle.dds_script.specs.declared.line.Line.{Line}
 use Rattle.dds_script.specs.declared.line.Line.TheVariants as line
-use Rattle.dds_script.specs.declared.report_line.ReportLine.TheVariants as report
+use Rattle.dds_transcript.specs.declared.report_line.ReportLine.TheVariants as report
 use Rattle.dds_walk.proofs.Moves.{moves-over, moves-suc}
 use Rattle.dds_walk.proofs.Picked.{AreSteps, both-true, steps-append, steps-first, steps-picked}
 use Rattle.dds_walk.proofs.Walked.{tries-alone}

@@ -13,8 +13,8 @@ use Rattle.dds_script.specs.Opening.{OpeningOf, ScriptOf, ranges_of}
 use Rattle.dds_script.specs.Ranges.{IsInRanges, IsRanges}
 use Rattle.dds_script.specs.declared.line.Line.{Line}
 use Rattle.dds_script.specs.declared.line.Line.TheVariants as line
-use Rattle.dds_script.specs.declared.report_line.ReportLine.{ReportLine}
-use Rattle.dds_script.specs.declared.report_line.ReportLine.TheVariants as report
+use Rattle.dds_transcript.specs.declared.report_line.ReportLine.{ReportLine}
+use Rattle.dds_transcript.specs.declared.report_line.ReportLine.TheVariants as report
 use Rattle.dds_walk.proofs.Counted.{AreCounted, counted-get, counted-here, counted-more, counted-next, counted-set, counted-start}
 use Rattle.dds_walk.proofs.Moves.{moves-over, moves-suc}
 use Rattle.dds_walk.proofs.Picked.{IsEvent, all-events, both-true, steps-picked}

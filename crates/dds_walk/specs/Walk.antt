@@ -14,10 +14,10 @@ use Rattle.dds_history.specs.Map.{Map}
 use Rattle.dds_script.specs.Opening.{ScriptOf}
 use Rattle.dds_script.specs.declared.line.Line.{Line}
 use Rattle.dds_script.specs.declared.line.Line.TheVariants as line
-use Rattle.dds_script.specs.declared.report_line.OrderKind.{OrderKind}
-use Rattle.dds_script.specs.declared.report_line.OrderKind.TheVariants as kind
-use Rattle.dds_script.specs.declared.report_line.ReportLine.{ReportLine}
-use Rattle.dds_script.specs.declared.report_line.ReportLine.TheVariants as report
+use Rattle.dds_transcript.specs.declared.report_line.OrderKind.{OrderKind}
+use Rattle.dds_transcript.specs.declared.report_line.OrderKind.TheVariants as kind
+use Rattle.dds_transcript.specs.declared.report_line.ReportLine.{ReportLine}
+use Rattle.dds_transcript.specs.declared.report_line.ReportLine.TheVariants as report
 use Rattle.dds_states.specs.declared.brick_state.BrickState.{BrickState}
 use Rattle.dds_states.specs.declared.turn.Replied.{Replied}
 use Rattle.dds_states.specs.declared.turn.Replied.TheVariants as replied

@@ -17,7 +17,7 @@ use dds_base::memory::Memory;
 use dds_base::number::{CallNo, CallerNo, NodeNo};
 use dds_base::op::{Op, Order};
 use dds_script::line::Line;
-use dds_script::report_line::ReportLine;
+use dds_transcript::report_line::ReportLine;
 use dds_world::possible::is_possible;
 use dds_world::queue::Queue;
 use dds_world::step::{Input, Step};

@@ -7,7 +7,7 @@ use crate::picking::{Picking, pick};
 use crate::playing::{make, say};
 use crate::walk::Walk;
 use dds_base::memory::Memory;
-use dds_script::report_line::ReportLine;
+use dds_transcript::report_line::ReportLine;
 use std::alloc::Global;
 
 /// Makes a picked event, and whether it was made.

@@ -9,7 +9,7 @@ use crate::walk::{Lead, Walk};
 use dds_base::items::Items;
 use dds_base::memory::Memory;
 use dds_base::number::NodeNo;
-use dds_script::report_line::{OrderKind, ReportLine};
+use dds_transcript::report_line::{OrderKind, ReportLine};
 use dds_states::turn::{Replied, ReplyList};
 use dds_world::possible::is_possible;
 use dds_world::run::next;

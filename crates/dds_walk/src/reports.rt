@@ -12,7 +12,7 @@ use dds_base::items::Items;
 use dds_base::memory::Memory;
 use dds_base::number::{CallNo, CallerNo, NodeNo};
 use dds_script::opening::Script;
-use dds_script::report_line::{OrderKind, ReportLine};
+use dds_transcript::report_line::{OrderKind, ReportLine};
 use dds_world::opening_world::start;
 use dds_world::queue::Queue;
 use dds_world::runs::stands_in;

@@ -7,7 +7,7 @@ use crate::walk::Lead;
 use dds_base::number::{CallNo, CallerNo, NodeNo};
 use dds_base::op::Order;
 use dds_groups::order::same_name;
-use dds_script::report_line::OrderKind;
+use dds_transcript::report_line::OrderKind;
 use dds_world::queue::Queue;
 use dds_world::step::{Input, Step};
 

@@ -11,7 +11,7 @@ use dds_base::leaf::Leaf;
 use dds_base::memory::Memory;
 use dds_base::number::NodeNo;
 use dds_history::table::Table;
-use dds_script::report_line::ReportLine;
+use dds_transcript::report_line::ReportLine;
 use dds_states::brick_state::BrickState;
 use std::alloc::Global;
 

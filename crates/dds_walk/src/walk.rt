@@ -2,7 +2,7 @@
 
 use crate::picking::Picking;
 use dds_base::items::Items;
-use dds_script::report_line::{OrderKind, ReportLine};
+use dds_transcript::report_line::{OrderKind, ReportLine};
 use dds_world::queue::Queue;
 use dds_world::step::{Journal, Step};
 use dds_world::trace::Trace;

@@ -2,8 +2,8 @@
 
 ghost use Rattle.std.specs.Prelude.{◌≡◌, ◌≤◌, OnOk, OnErr};
 ghost use Rattle.dds_base.specs.Outside.{Added, AddedPart, Rose};
-ghost use Rattle.dds_script.specs.Text.{report_text};
-ghost use Rattle.dds_script.specs.Writing.{IsMoved, RoseWhereFailed};
+ghost use Rattle.dds_transcript.specs.Text.{report_text};
+ghost use Rattle.dds_transcript.specs.Writing.{IsMoved, RoseWhereFailed};
 
 use crate::line_text::put_line;
 use crate::report_line::ReportLine;

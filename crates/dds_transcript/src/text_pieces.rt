@@ -3,7 +3,8 @@
 ghost use Rattle.std.specs.Prelude.{◌≡◌, ◌++◌, ◌<◌, OnOk};
 ghost use Rattle.std.specs.Char.{digit_char};
 ghost use Rattle.std.specs.Fmt.{decimal};
-ghost use Rattle.dds_script.specs.Text.{brick_text, call_text, list_text, name_text};
+ghost use Rattle.dds_script.specs.Text.{brick_text, list_text, name_text};
+ghost use Rattle.dds_transcript.specs.Text.{call_text};
 ghost use Rattle.dds_script.specs.Words.{hex_text, value_text};
 
 use dds_base::brick_list::BrickList;

@@ -1,8 +1,8 @@
 -- What writing the transcript does.
 use Rattle.std.specs.Prelude.{◌≡◌, ℕ, ◌++◌, List, Option, Result, Ok, Err}
 use Rattle.dds_base.specs.Outside.{Added, Rose}
-use Rattle.dds_script.specs.declared.write_lines.WriteEnd.{WriteEnd}
-use Rattle.dds_script.specs.declared.write_lines.WriteEnd.TheVariants.{Failed, Memory}
+use Rattle.dds_transcript.specs.declared.write_lines.WriteEnd.{WriteEnd}
+use Rattle.dds_transcript.specs.declared.write_lines.WriteEnd.TheVariants.{Failed, Memory}
 
 -- the count of faults rose, where a call of the sink failed
 abbrev pub RoseWhereFailed : Result (Unit {0}) WriteEnd → ℕ → ℕ → Type 0

@@ -1,6 +1,6 @@
 use Rattle.std.proofs.Common.{[], arith, sym, ◌∙◌, append-nil}
-use Rattle.dds_script.proofs.Writing.{writing-more, writing-part, writing-end, report-drop, report-end}
-use Rattle.dds_script.proofs.write_lines.write_lines.Goals as goal
+use Rattle.dds_transcript.proofs.Writing.{writing-more, writing-part, writing-end, report-drop, report-end}
+use Rattle.dds_transcript.proofs.write_lines.write_lines.Goals as goal
 
 pub returns-in-Err-write_full-clause-part : goal.returns-in-Err-write_full-clause-part
 returns-in-Err-write_full-clause-part g c =

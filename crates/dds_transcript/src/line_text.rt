@@ -2,7 +2,7 @@
 
 ghost use Rattle.std.specs.Prelude.{◌≡◌, ◌++◌, IfOk, OnOk};
 ghost use Rattle.std.specs.Fmt.{decimal};
-ghost use Rattle.dds_script.specs.Text.{counted_text, leaf_text, line_text, met_text, order_reply_text, order_text, reply_text, up_text, words_text};
+ghost use Rattle.dds_transcript.specs.Text.{counted_text, leaf_text, line_text, met_text, order_reply_text, order_text, reply_text, up_text, words_text};
 
 use crate::report_line::{Counted, OrderKind, ReportLine};
 use crate::text_pieces::{put, put_brick, put_call, put_list, put_name, put_number, put_value};

@@ -3,9 +3,9 @@ use Rattle.std.proofs.Common.{◌≡◌, ℕ, ◌+◌, ◌<◌, ◌≤◌, List,
 use Rattle.std.proofs.lemmas.Grind.{common_steps}
 use Rattle.dds_base.proofs.Outside.{added-none, added-more}
 use Rattle.dds_base.specs.Outside.{Added, AddedPart}
-use Rattle.dds_script.specs.Text.{report_text, line_text}
-use Rattle.dds_script.specs.Writing.{IsMoved}
-use Rattle.dds_script.specs.declared.report_line.ReportLine.{ReportLine}
+use Rattle.dds_transcript.specs.Text.{report_text, line_text}
+use Rattle.dds_transcript.specs.Writing.{IsMoved}
+use Rattle.dds_transcript.specs.declared.report_line.ReportLine.{ReportLine}
 
 -- the lines up to a place were written, but for the text that is left to write
 pub record IsWriting (start : Option (List ℕ)) (all left rest : List ℕ) (now : Option (List ℕ)) : Type 0 where

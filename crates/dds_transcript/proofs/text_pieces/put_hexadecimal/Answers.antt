@@ -1,6 +1,6 @@
 use Rattle.std.proofs.Common.{arith}
-use Rattle.dds_script.proofs.Pieces.{hex-text-more}
-use Rattle.dds_script.proofs.text_pieces.put_hexadecimal.Goals as goal
+use Rattle.dds_transcript.proofs.Pieces.{hex-text-more}
+use Rattle.dds_transcript.proofs.text_pieces.put_hexadecimal.Goals as goal
 
 pub loop-byte-preserved : goal.loop-byte-preserved
 loop-byte-preserved c =

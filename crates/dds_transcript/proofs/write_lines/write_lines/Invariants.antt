@@ -1,7 +1,7 @@
 use Rattle.std.proofs.Common.{drop, ◌≤◌}
-use Rattle.dds_script.proofs.Writing.{IsWriting}
-use Rattle.dds_script.specs.Text.{report_text}
-use Rattle.dds_script.proofs.write_lines.write_lines.Given as goal
+use Rattle.dds_transcript.proofs.Writing.{IsWriting}
+use Rattle.dds_transcript.specs.Text.{report_text}
+use Rattle.dds_transcript.proofs.write_lines.write_lines.Given as goal
 
 abbrev pub invariant-loop-line : goal.invariant-loop-line
 invariant-loop-line g l = record {

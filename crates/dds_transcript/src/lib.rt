@@ -1,0 +1,9 @@
+//! The transcript: its lines, the text of each, and its writer.
+#![tactic(auto)]
+
+pub mod line_text;
+pub mod report_line;
+#[cfg(test)]
+mod tests;
+mod text_pieces;
+pub mod write_lines;
