@@ -20,7 +20,12 @@ use std::alloc::Global;
 pub fn show_line(alloc: Global, walk: &mut Walk, brick: NodeNo) -> Result<(), Memory>
     ensures { OnOk result (walk.new ≡ show_line walk.old brick) }
 {
-    show(alloc, &mut walk.lines, brick, walk.trace.world.brick(brick))
+    show(
+        alloc,
+        &mut walk.lines,
+        brick,
+        walk.trace.as_trace().world.brick(brick),
+    )
 }
 
 fn show(
