@@ -6,3 +6,7 @@ pub mod Counted
 pub mod Picked
 pub mod Walked
 pub mod Plain
+pub mod Entries
+pub mod Rank
+pub mod Changed
+pub mod Kept

@@ -7,6 +7,8 @@ pub mod moving;
 pub mod picking;
 pub mod playing;
 pub mod reports;
+pub mod run;
 pub mod same;
 pub mod showing;
+pub mod touched;
 pub mod walk;

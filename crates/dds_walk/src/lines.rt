@@ -102,7 +102,7 @@ fn stop_line(alloc: Global, walk: &mut Walk, node: NodeNo) -> Result<(), Memory>
     ensures { OnOk result (walk.new ≡ stop_line walk.old node) }
 {
     let step = Step::Stop { node };
-    if is_possible(&walk.trace, &step) {
+    if is_possible(walk.trace.as_trace(), &step) {
         return attempt(alloc, walk, step);
     }
     Ok(())
@@ -111,7 +111,7 @@ fn stop_line(alloc: Global, walk: &mut Walk, node: NodeNo) -> Result<(), Memory>
 fn step_line(alloc: Global, walk: &mut Walk, step: Step, no: ReportLine) -> Result<(), Memory>
     ensures { OnOk result (walk.new ≡ step_line walk.old step no) }
 {
-    if is_possible(&walk.trace, &step) {
+    if is_possible(walk.trace.as_trace(), &step) {
         return attempt(alloc, walk, step);
     }
     say(walk, no)
@@ -152,7 +152,7 @@ fn call_alone(
 ) -> Result<(), Memory>
     ensures { OnOk result (walk.new ≡ call_alone walk.old caller call op.now (slice_get walk.old.trace.callers caller)) }
 {
-    let Some(state) = state_of(walk.trace.callers.as_slice(), caller) else {
+    let Some(state) = state_of(walk.trace.as_trace().callers.as_slice(), caller) else {
         return Ok(());
     };
     if state.call.is_some() {
@@ -176,7 +176,7 @@ fn state_of(callers: &[Caller], caller: CallerNo) -> Option<Caller>
 fn call_along(alloc: Global, walk: &mut Walk, caller: CallerNo, call: CallNo) -> Result<(), Memory>
     ensures { OnOk result (walk.new ≡ call_along walk.old caller call (rest_of walk.old.rest)) }
 {
-    if is_asked(walk.trace.asked.as_slice(), caller, call) {
+    if is_asked(walk.trace.as_trace().asked.as_slice(), caller, call) {
         return Ok(());
     }
     if has_call(&walk.rest, caller, call) {

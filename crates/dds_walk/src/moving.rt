@@ -15,7 +15,7 @@ fn event(alloc: Global, walk: &mut Walk) -> Result<bool, Memory>
     ensures walk { OnOk result (walk.new ≡ after_event walk.old) }
     ensures made { IfOk result (λ made. made ≡ is_some (event walk.old)) }
 {
-    let Some(step) = pick(alloc, &mut walk.picking, &walk.trace.world)? else {
+    let Some(step) = pick(&mut walk.picking, &walk.trace)? else {
         return Ok(false);
     };
     make(alloc, walk, step)
@@ -49,15 +49,15 @@ pub fn quiet_line(alloc: Global, walk: &mut Walk, limit: u64) -> Result<(), Memo
     ensures { OnOk result (walk.new ≡ quiet_said limit (moves limit 0 walk.old)) }
 {
     let events = moves(alloc, walk, limit)?;
-    if events == limit && has_event(alloc, walk)? {
+    if events == limit && has_event(walk)? {
         return say(walk, ReportLine::Loud);
     }
     say(walk, ReportLine::Quiet { events })
 }
 
-fn has_event(alloc: Global, walk: &Walk) -> Result<bool, Memory>
+fn has_event(walk: &Walk) -> Result<bool, Memory>
     ensures { IfOk result (λ has. has ≡ has_event walk.now) }
 {
     let mut fifo = Picking::Fifo;
-    Ok(pick(alloc, &mut fifo, &walk.trace.world)?.is_some())
+    Ok(pick(&mut fifo, &walk.trace)?.is_some())
 }

@@ -9,10 +9,9 @@ use crate::walk::{Lead, Walk};
 use dds_base::items::Items;
 use dds_base::memory::Memory;
 use dds_base::number::NodeNo;
-use dds_transcript::report_line::{OrderKind, ReportLine};
 use dds_states::turn::{Replied, ReplyList};
+use dds_transcript::report_line::{OrderKind, ReportLine};
 use dds_world::possible::is_possible;
-use dds_world::run::next;
 use dds_world::step::{Input, Step};
 use std::alloc::Global;
 
@@ -20,9 +19,9 @@ use std::alloc::Global;
 pub fn play(alloc: Global, walk: &mut Walk, step: Step) -> Result<(), Memory>
     ensures { OnOk result (walk.new ≡ played walk.old step) }
 {
-    let possible = is_possible(&walk.trace, &step);
+    let possible = is_possible(walk.trace.as_trace(), &step);
     let kind = kind_at(walk.orders.as_slice(), &step);
-    let replies = next(alloc, &mut walk.trace, &step)?;
+    let replies = walk.trace.next(alloc, &step)?;
     let answered = has_order_reply(replies.as_slice());
     note_order(&mut walk.orders, possible, answered, &step);
     print_replies(&mut walk.lines, kind, node_of(&step), replies)?;

@@ -7,13 +7,13 @@ ghost use Rattle.dds_walk.specs.Walk.{first_walk, open_call_of, open_calls, open
 use crate::lines::{lines_done, take_rest};
 use crate::picking::Picking;
 use crate::playing::play;
+use crate::run::Run;
 use crate::walk::Walk;
 use dds_base::items::Items;
 use dds_base::memory::Memory;
 use dds_base::number::{CallNo, CallerNo, NodeNo};
 use dds_script::opening::Script;
 use dds_transcript::report_line::{OrderKind, ReportLine};
-use dds_world::opening_world::start;
 use dds_world::queue::Queue;
 use dds_world::runs::stands_in;
 use dds_world::step::{EVENTS, Input, Journal, Step};
@@ -44,6 +44,7 @@ pub fn report(alloc: Global, script: &Script, journal: &Journal) -> Result<Vec<R
         mut lines,
         ..
     } = walk;
+    let trace = trace.into_trace();
     push_open_calls(&mut lines, trace.callers.as_slice())?;
     push_open_orders(&mut lines, orders.as_slice())?;
     let entries = count_entries(trace.made.as_slice(), trace.told.as_slice())?;
@@ -57,7 +58,7 @@ fn first_walk(alloc: Global, script: &Script, rest: Option<Queue<Step>>) -> Resu
 {
     let opening = script.opening();
     Ok(Walk {
-        trace: start(alloc, opening)?,
+        trace: Run::start(alloc, opening)?,
         orders: no_orders(alloc, opening.bricks())?,
         counts: no_counts(alloc, opening.callers())?,
         picking: Picking::Fifo,

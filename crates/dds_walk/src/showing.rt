@@ -11,8 +11,8 @@ use dds_base::leaf::Leaf;
 use dds_base::memory::Memory;
 use dds_base::number::NodeNo;
 use dds_history::table::Table;
-use dds_transcript::report_line::ReportLine;
 use dds_states::brick_state::BrickState;
+use dds_transcript::report_line::ReportLine;
 use std::alloc::Global;
 
 /// Prints a brick: that it has stopped; or how many transactions are pending there, and its leaves by bits and then by
@@ -20,7 +20,12 @@ use std::alloc::Global;
 pub fn show_line(alloc: Global, walk: &mut Walk, brick: NodeNo) -> Result<(), Memory>
     ensures { OnOk result (walk.new ≡ show_line walk.old brick) }
 {
-    show(alloc, &mut walk.lines, brick, walk.trace.world.brick(brick))
+    show(
+        alloc,
+        &mut walk.lines,
+        brick,
+        walk.trace.as_trace().world.brick(brick),
+    )
 }
 
 fn show(

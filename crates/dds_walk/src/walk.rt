@@ -1,11 +1,11 @@
 //! A walk along a script.
 
 use crate::picking::Picking;
+use crate::run::Run;
 use dds_base::items::Items;
 use dds_transcript::report_line::{OrderKind, ReportLine};
 use dds_world::queue::Queue;
 use dds_world::step::{Journal, Step};
-use dds_world::trace::Trace;
 
 /// How the journal that a walk follows has the step that the script determines: next, or behind a stop of the step's own
 /// node, or not.
@@ -21,7 +21,7 @@ pub enum Lead {
 /// the script determines), the steps made, and the lines printed.
 #[derive(Drop)]
 pub struct Walk {
-    pub trace: Trace,
+    pub trace: Run,
     pub orders: Items<Option<OrderKind>>,
     pub counts: Items<u32>,
     pub picking: Picking,
