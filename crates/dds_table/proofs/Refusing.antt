@@ -16,7 +16,7 @@ use Rattle.dds_table.specs.Index.{IsSpread, IsPlaced, IsStored}
 use Rattle.dds_table.specs.Answers.{IsReadAs, IsNoPage}
 use Rattle.dds_base.specs.Name.{Name, same_name}
 use Rattle.dds_table.specs.Store.{named, slots_of, place_named, without_slots}
-use Rattle.dds_table.specs.Lawful.{is_place_of, is_first_of, is_pair_of, is_bucket_of, is_piece_of, IsGiven, IsGivenAs, IsSilent, IsPieceRefused, IsSlotRefused, Refused, IsChainRefused, IsTableRefused, IsRefused}
+use Rattle.dds_table.specs.Lawful.{is_place_of, is_first_of, is_pair_of, is_bucket_of, is_piece_of, IsGiven, IsGivenAs, IsSilent, IsPieceRefused, IsSlotRefused, Refused, IsChainRefused, IsTableRefused, IsRefused, WherePage}
 use Rattle.dds_table.specs.declared.fault.TableFault.{TableFault}
 use Rattle.dds_table.specs.declared.fault.TableFault.TheVariants.{Disk, Page, Memory}
 use Rattle.dds_table.specs.declared.table.Slot.{Slot}
@@ -120,11 +120,6 @@ slots-at [] i t below e = absurd (omega arith)
 slots-at (x ∷ xs) zero t below e = ap (λ (u : Table). u.buckets.items) e
 slots-at (x ∷ xs) (suc i) t below e = slots-at xs i t (omega arith) e
 
-slots-set : (tables : List Table) (i : ℕ) (t : Table) → i < length tables → t.buckets.items ≡ get_or (slots_of (set tables i t)) i []
-slots-set [] i t below = absurd (omega arith)
-slots-set (x ∷ xs) zero t below = refl
-slots-set (x ∷ xs) (suc i) t below = slots-set xs i t (omega arith)
-
 -- the slots of the tables without one of a name
 pub slots-less : (tables : List Table) (name : Name) (i : ℕ) → place_named (named tables) name ≡ Some i → slots_of (remove tables i) ≡ without_slots (named tables) (slots_of tables) name
 slots-less [] name i h = cc
@@ -145,8 +140,21 @@ refused-in kept all i buckets Memory is h = tt
 pub refused-at : (kept : Kept) (tables : List Table) (i : ℕ) (t : Table) (e : TableFault) → i < length tables → t ≡ get_or tables i t → IsTableRefused kept t.buckets.items e → IsRefused kept (slots_of tables) e
 refused-at kept tables i t e below is h = refused-in kept (slots_of tables) i t.buckets.items e (slots-at tables i t below is) h
 
-pub refused-set : (kept : Kept) (tables : List Table) (i : ℕ) (t : Table) (e : TableFault) → i < length tables → IsTableRefused kept t.buckets.items e → IsRefused kept (slots_of (set tables i t)) e
-refused-set kept tables i t e below h = refused-in kept (slots_of (set tables i t)) i t.buckets.items e (slots-set tables i t below) h
+-- where a page is refused, the slots stay
+slots-same : (tables : List Table) (i : ℕ) (t : Table) → i < length tables → t ≡ get_or tables i t → slots_of (set tables i t) ≡ slots_of tables
+slots-same [] i t below e = absurd (omega arith)
+slots-same (x ∷ xs) zero t below e = ap (λ (u : Table). u.buckets.items ∷ slots_of xs) e
+slots-same (x ∷ xs) (suc i) t below e = ap (λ (ss : List (List (List Slot))). x.buckets.items ∷ ss) (slots-same xs i t (omega arith) e)
+
+pub slots-stay : (tables : List Table) (i : ℕ) (t now : Table) (e : TableFault) → i < length tables → t ≡ get_or tables i t → WherePage (now ≡ t) e → WherePage (slots_of (set tables i now) ≡ slots_of tables) e
+slots-stay tables i t now Disk below is h = tt
+slots-stay tables i t now (Page p) below is h = ap (λ (u : Table). slots_of (set tables i u)) h ∙ slots-same tables i t below is
+slots-stay tables i t now Memory below is h = tt
+
+pub refused-stays : (kept : Kept) (old now : List (List (List Slot))) (e : TableFault) → WherePage (now ≡ old) e → IsRefused kept old e → IsRefused kept now e
+refused-stays kept old now Disk same h = tt
+refused-stays kept old now (Page p) same h = subst (λ (ss : List (List (List Slot))). IsRefused kept ss (Page p)) (sym same) h
+refused-stays kept old now Memory same h = tt
 
 -- a slot's page as the store wrote it is the slot's
 spread-room : (a : Pages) (overflow bytes : List ℕ) → IsSpread a overflow bytes → length bytes ≤ 4080 * length overflow

@@ -113,3 +113,9 @@ abbrev pub IsRefused : Kept → List (List (List Slot)) → TableFault → Type 
 IsRefused kept tables (Page page) = (table : ℕ) × (bucket : ℕ) × Refused kept (get_or (get_or tables table []) bucket []) page
 IsRefused kept tables Disk = Unit {0}
 IsRefused kept tables Memory = Unit {0}
+
+-- what is so where a page is refused
+abbrev pub WherePage : Type 0 → TableFault → Type 0
+WherePage fact (Page page) = fact
+WherePage fact Disk = Unit {0}
+WherePage fact Memory = Unit {0}

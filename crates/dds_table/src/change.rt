@@ -9,7 +9,7 @@ ghost use Rattle.dds_table.specs.Content.{content};
 ghost use Rattle.dds_table.specs.Index.{IsTable, IsIndex, table_uses, vacant};
 ghost use Rattle.dds_table.specs.Answers.{IsNoPage, Changed};
 ghost use Rattle.dds_table.specs.Part.{has_key};
-ghost use Rattle.dds_table.specs.Lawful.{IsTableRefused};
+ghost use Rattle.dds_table.specs.Lawful.{IsTableRefused, WherePage};
 
 use crate::fault::TableFault;
 use crate::pairs::add_pair;
@@ -38,7 +38,8 @@ pub(crate) fn bind<D: Disk>(
     ensures keys { OnOk result ((q : ℕ) → has_key table.new q ≡ (key == q || has_key table.old q)) }
     ensures was { (a : Pages) → D.pages space.old.cache.disk ≡ Some a → IsTable a table.old → IfOk result (λ was. was ≡ contains_key (content a table.old.root) key) }
     ensures lawful { (a : Pages) → D.pages space.old.cache.disk ≡ Some a → IsTable a table.old → IfErr result IsNoPage }
-    ensures refused { IfErr result (IsTableRefused space.new.cache.kept table.new.buckets.items) }
+    ensures refused { IfErr result (IsTableRefused space.new.cache.kept table.old.buckets.items) }
+    ensures stays { IfErr result (WherePage (table.new ≡ table.old)) }
     ensures untold { D.pages space.old.cache.disk ≡ None → D.pages space.new.cache.disk ≡ None }
     ensures rose { IsErrOf result TableFault.Disk → Rose (D.faults space.old.cache.disk) (D.faults space.new.cache.disk) }
     ensures steady { OnOk result (D.faults space.new.cache.disk ≡ D.faults space.old.cache.disk) }
@@ -74,7 +75,8 @@ pub(crate) fn unbind<D: Disk>(
     ensures keys { OnOk result ((q : ℕ) → has_key table.new q ≡ (not (key == q) && has_key table.old q)) }
     ensures was { (a : Pages) → D.pages space.old.cache.disk ≡ Some a → IsTable a table.old → IfOk result (λ was. was ≡ contains_key (content a table.old.root) key) }
     ensures lawful { (a : Pages) → D.pages space.old.cache.disk ≡ Some a → IsTable a table.old → IfErr result IsNoPage }
-    ensures refused { IfErr result (IsTableRefused space.new.cache.kept table.new.buckets.items) }
+    ensures refused { IfErr result (IsTableRefused space.new.cache.kept table.old.buckets.items) }
+    ensures stays { IfErr result (WherePage (table.new ≡ table.old)) }
     ensures untold { D.pages space.old.cache.disk ≡ None → D.pages space.new.cache.disk ≡ None }
     ensures rose { IsErrOf result TableFault.Disk → Rose (D.faults space.old.cache.disk) (D.faults space.new.cache.disk) }
     ensures steady { OnOk result (D.faults space.new.cache.disk ≡ D.faults space.old.cache.disk) }

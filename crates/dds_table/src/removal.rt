@@ -12,7 +12,7 @@ ghost use Rattle.dds_base.specs.Place.{bucket as bucket_no};
 ghost use Rattle.dds_table.specs.Index.{IsChain, IsTable, IsIndex, Misses, place_of, chain_uses, slot_uses, table_uses, tables_use, vacant};
 ghost use Rattle.dds_table.specs.Answers.{IsNoPage, Bridged, Changed};
 ghost use Rattle.dds_table.specs.Part.{has_key};
-ghost use Rattle.dds_table.specs.Lawful.{IsSilent, IsChainRefused, IsTableRefused};
+ghost use Rattle.dds_table.specs.Lawful.{IsSilent, IsChainRefused, IsTableRefused, WherePage};
 
 use crate::fault::TableFault;
 use crate::pairs::{read_bucket, write_root};
@@ -101,7 +101,8 @@ pub(crate) fn remove_pair<D: Disk>(
     ensures gone { OnOk result (Misses key (get_or table.new.buckets.items (bucket_no key) [])) }
     ensures less { (a : Pages) → D.pages space.old.cache.disk ≡ Some a → IsTable a table.old → OnOk result (table.new.len < table.old.len) }
     ensures lawful { (a : Pages) → D.pages space.old.cache.disk ≡ Some a → IsTable a table.old → IfErr result IsNoPage }
-    ensures refused { IfErr result (IsTableRefused space.new.cache.kept table.new.buckets.items) }
+    ensures refused { IfErr result (IsTableRefused space.new.cache.kept table.old.buckets.items) }
+    ensures stays { IfErr result (WherePage (table.new ≡ table.old)) }
     ensures untold { D.pages space.old.cache.disk ≡ None → D.pages space.new.cache.disk ≡ None }
     ensures rose { IsErrOf result TableFault.Disk → Rose (D.faults space.old.cache.disk) (D.faults space.new.cache.disk) }
     ensures steady { OnOk result (D.faults space.new.cache.disk ≡ D.faults space.old.cache.disk) }

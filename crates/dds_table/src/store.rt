@@ -9,7 +9,7 @@ ghost use Rattle.dds_table.specs.Answers.{IsNoPage};
 ghost use Rattle.dds_table.specs.Part.{IsPart};
 ghost use Rattle.dds_table.specs.Split.{KeysAreOf};
 ghost use Rattle.dds_table.specs.Store.{StoreState, named, names, place_named, has_table, maps_of, map_named, with_map, without_table, without_slots, Holds};
-ghost use Rattle.dds_table.specs.Lawful.{IsRefused, knows};
+ghost use Rattle.dds_table.specs.Lawful.{IsRefused, WherePage, knows};
 
 use crate::change::{bind, unbind};
 use crate::fault::TableFault;
@@ -224,7 +224,8 @@ impl<D: Disk> Store<D> {
         ensures ok { OnOk result (self.new.failed ≡ false) }
         ensures err { OnErr result (self.new.failed ≡ true) }
         ensures lawful { (a : Pages) → D.pages self.old.cache.disk ≡ Some a → IfErr result IsNoPage }
-        ensures refused { IfErr result (IsRefused self.new.cache.kept self.new.slots) }
+        ensures refused { IfErr result (IsRefused self.new.cache.kept self.old.slots) }
+        ensures stays { IfErr result (WherePage (self.new.slots ≡ self.old.slots)) }
         ensures known { IfOk result (λ was. was ≡ knows self.old.tables self.old.slots name key) }
         ensures keys { OnOk result ((q : ℕ) → knows self.new.tables self.new.slots name q ≡ (key == q || knows self.old.tables self.old.slots name q)) }
         ensures untold { D.pages self.old.cache.disk ≡ None → D.pages self.new.cache.disk ≡ None }
@@ -253,7 +254,8 @@ impl<D: Disk> Store<D> {
         ensures ok { OnOk result (self.new.failed ≡ false) }
         ensures err { OnErr result (self.new.failed ≡ true) }
         ensures lawful { (a : Pages) → D.pages self.old.cache.disk ≡ Some a → IfErr result IsNoPage }
-        ensures refused { IfErr result (IsRefused self.new.cache.kept self.new.slots) }
+        ensures refused { IfErr result (IsRefused self.new.cache.kept self.old.slots) }
+        ensures stays { IfErr result (WherePage (self.new.slots ≡ self.old.slots)) }
         ensures known { IfOk result (λ was. was ≡ knows self.old.tables self.old.slots name key) }
         ensures keys { OnOk result ((q : ℕ) → knows self.new.tables self.new.slots name q ≡ (not (key == q) && knows self.old.tables self.old.slots name q)) }
         ensures untold { D.pages self.old.cache.disk ≡ None → D.pages self.new.cache.disk ≡ None }
