@@ -1,6 +1,6 @@
 //! A cache over a disk: pages that were read or written are held, the least recently used leaves.
 
-ghost use Rattle.std.specs.Prelude.{◌≡◌, ℕ, ◌<◌, ◌≤◌, List, length, Some, None, [], IfOk, OnOk, OnErr, IsErrOf, IsTrue, is_some, true, false};
+ghost use Rattle.std.specs.Prelude.{◌≡◌, ℕ, ◌<◌, ◌≤◌, List, length, Some, None, [], IfOk, OnOk, OnErr, IsErrOf, IsTrue, IsOk, is_some, true, false};
 ghost use Rattle.dds_base.specs.Outside.{Rose};
 ghost use Rattle.dds_disk.specs.Pages.{ReadPage, WrotePage};
 ghost use Rattle.dds_cache.specs.declared.cache.CacheFault.TheVariants.{Memory as NoMemory};
@@ -138,6 +138,27 @@ impl<D: Disk> Cache<D> {
         let _capacity = self.capacity;
     }
 
+    /// Copies the page to `into`, of which nothing is said after an error. One that is held is given with no call of the
+    /// disk, and any other with one read. The page is then the one that was used last, and it is held as it was given.
+    pub fn read_into(&mut self, page: u64, into: &mut [u8; 4_096]) -> Result<(), CacheFault>
+        ensures held { (bytes : List ℕ) → held self.old.kept page ≡ Some bytes → IsOk result × (into.new ≡ bytes) × (self.new.disk ≡ self.old.disk) }
+        ensures gives { OnOk result (ReadPage (D.pages self.old.disk) page into.new (D.pages self.new.disk)) }
+        ensures kept { OnOk result (self.new.kept ≡ after_use self.old.capacity self.old.kept page into.new) }
+        ensures given { OnOk result (held self.new.kept page ≡ Some into.new) }
+        ensures capacity { self.new.capacity ≡ self.old.capacity }
+        ensures err_pages { OnErr result (D.pages self.new.disk ≡ D.pages self.old.disk) }
+        ensures err_kept { OnErr result (self.new.kept ≡ self.old.kept) }
+        ensures rose { IsErrOf result CacheFault.Disk → Rose (D.faults self.old.disk) (D.faults self.new.disk) }
+        ensures steady { OnOk result (D.faults self.new.disk ≡ D.faults self.old.disk) }
+        ensures never_falls { D.faults self.old.disk ≤ D.faults self.new.disk }
+    {
+        self.may_hold();
+        if !self.find(page, into) {
+            self.fetch(page, into)?;
+        }
+        Ok(())
+    }
+
     /// Gives the page. One that is held is given with no call of the disk, and any other with one
     /// read. The page is then the one that was used last, and it is held as it was given.
     pub fn read(&mut self, page: u64) -> Result<[u8; 4_096], CacheFault>
@@ -152,11 +173,8 @@ impl<D: Disk> Cache<D> {
         ensures steady { OnOk result (D.faults self.new.disk ≡ D.faults self.old.disk) }
         ensures never_falls { D.faults self.old.disk ≤ D.faults self.new.disk }
     {
-        self.may_hold();
         let mut bytes = [0; 4_096];
-        if !self.find(page, &mut bytes) {
-            self.fetch(page, &mut bytes)?;
-        }
+        self.read_into(page, &mut bytes)?;
         Ok(bytes)
     }
 

@@ -5,6 +5,7 @@ pub mod Reading
 pub mod Writing
 pub mod Fetching
 pub mod Slots
+pub mod Roots
 pub mod Adding
 pub mod Removing
 pub mod Changing

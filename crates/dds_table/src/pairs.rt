@@ -55,11 +55,10 @@ pub(crate) fn read_bucket<D: Disk>(
     ensures steady { OnOk result (D.faults space.new.cache.disk ≡ D.faults space.old.cache.disk) }
     ensures never_falls { D.faults space.old.cache.disk ≤ D.faults space.new.cache.disk }
 {
-    let bytes = match space.read(page) {
-        Ok(bytes) => bytes,
-        Err(fault) => return Err(fault),
-    };
-    decode(space.alloc, page, &bytes)
+    match space.read(page) {
+        Ok(()) => decode(space.alloc, page, &space.bytes),
+        Err(fault) => Err(fault),
+    }
 }
 
 /// Whether there is just one pair, the slot's.
@@ -129,15 +128,14 @@ pub(crate) fn get<D: Disk>(
     }
 }
 
-/// The bytes of a page of one pair.
-fn pair_page(alloc: Global, key: u64, held: Held, next: u64) -> Result<[u8; 4_096], Memory>
+/// Makes a page of one pair.
+fn pair_page(alloc: Global, key: u64, held: Held, next: u64) -> Result<BucketPage, Memory>
     requires { IsHeld held }
-    ensures { IfOk result (λ bytes. bytes ≡ bucket_bytes (record { pairs = record { key = key; held = held } ∷ []; next = next })) }
+    ensures { IfOk result (λ bucket. bucket ≡ record { pairs = record { key = key; held = held } ∷ []; next = next }) }
 {
     let mut pairs = Items::new(alloc);
     pairs.push(PagePair { key, held })?;
-    let bucket = BucketPage::of(pairs, next);
-    Ok(bucket.write())
+    Ok(BucketPage::of(pairs, next))
 }
 
 /// Writes the table's root page.
@@ -153,8 +151,8 @@ pub(crate) fn write_root<D: Disk>(space: &mut Space<D>, table: &Table) -> Result
     ensures steady { OnOk result (D.faults space.new.cache.disk ≡ D.faults space.old.cache.disk) }
     ensures never_falls { D.faults space.old.cache.disk ≤ D.faults space.new.cache.disk }
 {
-    let root = table.root_page();
-    space.write(table.root, &root.write())
+    table.write_root_in(&mut space.writer);
+    space.write(table.root)
 }
 
 /// Makes an empty table.
@@ -210,8 +208,9 @@ pub(crate) fn add_pair<D: Disk>(
     let Placed { held, overflow } = place(space, value)?;
     let page = space.take()?;
     let next = first_page(table.chain(key));
-    let bytes = pair_page(space.alloc, key, held, next)?;
-    space.write(page, &bytes)?;
+    let bucket = pair_page(space.alloc, key, held, next)?;
+    bucket.write_in(&mut space.writer);
+    space.write(page)?;
     let slot = Slot {
         key,
         page,

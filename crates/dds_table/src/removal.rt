@@ -39,7 +39,8 @@ fn relink<D: Disk>(space: &mut Space<D>, page: u64, next: u64) -> Result<(), Tab
         Err(fault) => return Err(fault),
     };
     let bucket = BucketPage::of(bucket.into_pairs(), next);
-    match space.write(page, &bucket.write()) {
+    bucket.write_in(&mut space.writer);
+    match space.write(page) {
         Ok(()) => Ok(()),
         Err(fault) => Err(fault),
     }

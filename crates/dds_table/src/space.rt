@@ -5,6 +5,7 @@ ghost use Rattle.dds_base.specs.Outside.{Rose};
 ghost use Rattle.std.specs.FinMap.{insert};
 ghost use Rattle.dds_disk.specs.Pages.{Pages, page_at};
 ghost use Rattle.dds_cache.specs.Kept.{held};
+ghost use Rattle.dds_pages.specs.Fields.{padded};
 ghost use Rattle.dds_table.specs.Index.{same, vacant};
 ghost use Rattle.dds_table.specs.Answers.{IsNoPage};
 
@@ -12,19 +13,22 @@ use crate::fault::TableFault;
 use dds_base::memory::Memory;
 use dds_cache::cache::{Cache, CacheFault};
 use dds_disk::disk::Disk;
+use dds_pages::writer::PageWriter;
 use std::alloc::Global;
 
 /// How many pages are held in memory.
 const HELD: usize = 64;
 
 /// A cached disk, with the numbers of its pages that are in no use: `free` were used before, and
-/// those from `fresh` on never were.
+/// those from `fresh` on never were. Pages are read to `bytes`, and written from `writer`.
 #[derive(Drop)]
 pub(crate) struct Space<D: Disk> {
     pub(crate) alloc: Global,
     pub(crate) cache: Cache<D>,
     pub(crate) free: Vec<u64>,
     pub(crate) fresh: u64,
+    pub(crate) bytes: [u8; 4_096],
+    pub(crate) writer: PageWriter,
 }
 
 impl<D: Disk> Space<D> {
@@ -38,6 +42,8 @@ impl<D: Disk> Space<D> {
             cache: Cache::new(alloc, disk, HELD)?,
             free: Vec::new(alloc),
             fresh: 0,
+            bytes: [0; 4_096],
+            writer: PageWriter::new(),
         })
     }
 
@@ -68,10 +74,11 @@ impl<D: Disk> Space<D> {
         Ok(())
     }
 
-    pub(crate) fn read(&mut self, page: u64) -> Result<[u8; 4_096], TableFault>
+    /// Reads a page.
+    pub(crate) fn read(&mut self, page: u64) -> Result<(), TableFault>
         ensures same { D.pages self.new.cache.disk ≡ D.pages self.old.cache.disk }
-        ensures told { (a : Pages) → D.pages self.old.cache.disk ≡ Some a → IfOk result (λ bytes. bytes ≡ page_at a page) }
-        ensures given { IfOk result (λ bytes. held self.new.cache.kept page ≡ Some bytes) }
+        ensures told { (a : Pages) → D.pages self.old.cache.disk ≡ Some a → OnOk result (self.new.bytes ≡ page_at a page) }
+        ensures given { OnOk result (held self.new.cache.kept page ≡ Some self.new.bytes) }
         ensures lawful { IfErr result IsNoPage }
         ensures free { self.new.free.items ≡ self.old.free.items }
         ensures fresh { self.new.fresh ≡ self.old.fresh }
@@ -79,15 +86,16 @@ impl<D: Disk> Space<D> {
         ensures steady { OnOk result (D.faults self.new.cache.disk ≡ D.faults self.old.cache.disk) }
         ensures never_falls { D.faults self.old.cache.disk ≤ D.faults self.new.cache.disk }
     {
-        match self.cache.read(page) {
-            Ok(bytes) => Ok(bytes),
+        match self.cache.read_into(page, &mut self.bytes) {
+            Ok(()) => Ok(()),
             Err(CacheFault::Disk) => Err(TableFault::Disk),
             Err(CacheFault::Memory) => Err(TableFault::Memory),
         }
     }
 
-    pub(crate) fn write(&mut self, page: u64, bytes: &[u8; 4_096]) -> Result<(), TableFault>
-        ensures told { (a : Pages) → D.pages self.old.cache.disk ≡ Some a → IfOk result (λ _. D.pages self.new.cache.disk ≡ Some (insert a page bytes.now)) }
+    /// Writes a page.
+    pub(crate) fn write(&mut self, page: u64) -> Result<(), TableFault>
+        ensures told { (a : Pages) → D.pages self.old.cache.disk ≡ Some a → OnOk result (D.pages self.new.cache.disk ≡ Some (insert a page (padded self.old.writer))) }
         ensures lawful { IfErr result IsNoPage }
         ensures free { self.new.free.items ≡ self.old.free.items }
         ensures fresh { self.new.fresh ≡ self.old.fresh }
@@ -96,7 +104,7 @@ impl<D: Disk> Space<D> {
         ensures steady { OnOk result (D.faults self.new.cache.disk ≡ D.faults self.old.cache.disk) }
         ensures never_falls { D.faults self.old.cache.disk ≤ D.faults self.new.cache.disk }
     {
-        match self.cache.write(page, bytes) {
+        match self.cache.write(page, self.writer.page()) {
             Ok(()) => Ok(()),
             Err(CacheFault::Disk) => Err(TableFault::Disk),
             Err(CacheFault::Memory) => Err(TableFault::Memory),
@@ -112,6 +120,8 @@ impl<D: Disk> Space<D> {
             cache,
             free: _,
             fresh: _,
+            bytes: _,
+            writer: _,
         } = self;
         cache.into_disk()
     }

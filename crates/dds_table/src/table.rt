@@ -3,7 +3,8 @@
 ghost use Rattle.std.specs.Prelude.{◌≡◌, ◌+◌, ◌-◌, ◌<◌, ◌≤◌, ◌^◌, ◌∷◌, [], length, map, get_or, replicate, slice_set, OnOk, OnErr, IfOk, IfSome, if◌then◌else◌, nat_lt};
 ghost use Rattle.std.proofs.Math.ListN.{set};
 ghost use Rattle.std.specs.List.{remove};
-ghost use Rattle.dds_pages.specs.Root.{Root};
+ghost use Rattle.dds_pages.specs.Fields.{padded};
+ghost use Rattle.dds_pages.specs.Root.{root_bytes};
 ghost use Rattle.dds_base.specs.Place.{bucket as bucket_no};
 ghost use Rattle.dds_table.specs.Index.{place_of, first_page};
 
@@ -12,7 +13,8 @@ use dds_base::memory::Memory;
 use dds_base::name::LeafName;
 use dds_base::place::bucket;
 use dds_pages::fault::NO_PAGE;
-use dds_pages::root::{BUCKETS, PAIRS, RootPage};
+use dds_pages::root::{BUCKETS, PAIRS, put_head};
+use dds_pages::writer::PageWriter;
 use std::alloc::Global;
 
 /// Where a pair stands: its bucket page, how long its value is, and the overflow pages of a long value, in their order.
@@ -87,19 +89,16 @@ impl Table {
         slots.as_slice()
     }
 
-    /// What the table's root page is to say.
-    pub(crate) fn root_page(&self) -> RootPage
+    /// Writes the table's root page in place of what was written.
+    pub(crate) fn write_root_in(&self, writer: &mut PageWriter)
         requires long { length self.now.buckets.items ≡ 256 }
-        requires few { self.now.len ≤ 16384 }
-        ensures { result ≡ record { pairs = self.now.len; firsts = map first_page self.now.buckets.items } }
+        ensures { padded writer.new ≡ root_bytes 2 (record { pairs = self.now.len; firsts = map first_page self.now.buckets.items }) }
     {
-        let mut root = RootPage::new();
-        root.set_pairs(self.len);
-        for bucket in 0..BUCKETS {
+        put_head(writer, self.len);
+        'buckets: for bucket in 0..BUCKETS {
             let slots = &self.buckets[bucket];
-            root.set_first(bucket as u8, first_page(slots.as_slice()));
+            writer.put_8(first_page(slots.as_slice()));
         }
-        root
     }
 
     /// Puts a slot first in its bucket's chain. At its last value the number of pairs stays.

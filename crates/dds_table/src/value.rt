@@ -54,11 +54,10 @@ fn read_overflow<D: Disk>(space: &mut Space<D>, page: u64) -> Result<OverflowPag
     ensures steady { OnOk result (D.faults space.new.cache.disk ≡ D.faults space.old.cache.disk) }
     ensures never_falls { D.faults space.old.cache.disk ≤ D.faults space.new.cache.disk }
 {
-    let bytes = match space.read(page) {
-        Ok(bytes) => bytes,
-        Err(fault) => return Err(fault),
-    };
-    decode(space.alloc, page, &bytes)
+    match space.read(page) {
+        Ok(()) => decode(space.alloc, page, &space.bytes),
+        Err(fault) => Err(fault),
+    }
 }
 
 /// Writes some bytes of a value to a page that is in no use, and gives the page.
@@ -77,7 +76,8 @@ fn write_overflow<D: Disk>(space: &mut Space<D>, bytes: &[u8], next: u64) -> Res
 {
     let page = space.take()?;
     let over = OverflowPage::of(space.alloc, bytes, next)?;
-    match space.write(page, &over.write()) {
+    over.write_in(&mut space.writer);
+    match space.write(page) {
         Ok(()) => Ok(page),
         Err(fault) => Err(fault),
     }

@@ -1,6 +1,6 @@
 use Rattle.std.proofs.Common.{length, ap, arith}
 use Rattle.dds_pages.proofs.PairPages.{pairs-few}
-use Rattle.dds_pages.proofs.bucket.BucketPage.write.Goals as goal
+use Rattle.dds_pages.proofs.bucket.BucketPage.write_in.Goals as goal
 
 pub overflow_cast-pairs : goal.overflow_cast-pairs
 overflow_cast-pairs c =
