@@ -16,6 +16,7 @@ pub mod Splits
 pub mod Turns
 pub mod OldPages
 pub mod Lifts
+pub mod Meeting
 pub mod TablePlaces
 pub mod Parted
 pub mod Refusing

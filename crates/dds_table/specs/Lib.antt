@@ -8,3 +8,4 @@ pub mod Split
 pub mod Old
 pub mod Lift
 pub mod Places
+pub mod Met

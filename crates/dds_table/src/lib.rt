@@ -6,6 +6,7 @@ pub mod fault;
 pub mod lift;
 #[cfg(test)]
 mod lift_tests;
+mod met;
 #[cfg(test)]
 mod page_tests;
 mod pairs;
