@@ -1,16 +1,4 @@
-pub mod Uses
-pub mod Chains
-pub mod Contents
-pub mod Reading
-pub mod Writing
-pub mod Fetching
-pub mod Slots
-pub mod Roots
-pub mod Adding
-pub mod Removing
-pub mod Changing
 pub mod Stores
-pub mod Parts
 pub mod NamedMaps
 pub mod Splits
 pub mod Turns

@@ -3,9 +3,9 @@ use Rattle.std.proofs.Common.{refl, List, ◌≡◌, ◌<◌, Some, false, IsTru
 use Rattle.std.specs.FinMap.{insert, contains_key, len as size}
 use Rattle.dds_disk.specs.Pages.{Pages}
 use Rattle.dds_base.specs.Name.{Name, covers}
-use Rattle.dds_table.specs.Content.{Map}
+use Rattle.dds_chains.specs.Content.{Map}
 use Rattle.dds_table.specs.Store.{named, place_named, maps_of, map_named}
-use Rattle.dds_table.specs.declared.table.Table.{Table}
+use Rattle.dds_chains.specs.declared.table.Table.{Table}
 use Rattle.dds_table.proofs.Stores.{named-set, unless-false, store-reclaimed, index-at, table-at, name-at, uses-at, map-at, changed-named, room-named, store-after, holds-after}
 use Rattle.dds_table.proofs.TablePlaces.{placed-kept}
 use Rattle.dds_table.proofs.Refusing.{refused-at, slots-stay}

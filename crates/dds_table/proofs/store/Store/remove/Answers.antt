@@ -1,8 +1,8 @@
 use Rattle.std.proofs.Common.{refl, List, ◌≡◌, ◌<◌, Some, length, sym, ap, ◌∙◌, arith}
 use Rattle.std.specs.FinMap.{remove as without, contains_key}
-use Rattle.dds_table.specs.Content.{Map}
+use Rattle.dds_chains.specs.Content.{Map}
 use Rattle.dds_table.specs.Store.{named, place_named, maps_of, map_named}
-use Rattle.dds_table.specs.declared.table.Table.{Table}
+use Rattle.dds_chains.specs.declared.table.Table.{Table}
 use Rattle.dds_table.proofs.Stores.{named-set, unless-false, index-at, table-at, uses-at, map-at, changed-named, store-after, holds-after}
 use Rattle.dds_table.proofs.TablePlaces.{placed-kept}
 use Rattle.dds_table.proofs.Refusing.{refused-at, slots-stay}
