@@ -6,9 +6,10 @@ ghost use Rattle.dds_disk.specs.Pages.{ReadPage, WrotePage};
 ghost use Rattle.dds_cache.specs.declared.cache.CacheFault.TheVariants.{Memory as NoMemory};
 ghost use Rattle.dds_cache.specs.Kept.{CacheState, held, after_use};
 
+use crate::calls::{read_from, write_to};
 use crate::recent::{hold, hold_again, look, take_back, trim};
 use dds_base::memory::Memory;
-use dds_disk::disk::{Disk, DiskError};
+use dds_disk::disk::Disk;
 use dds_disk::page::Page;
 use lru::LruCache;
 use std::alloc::Global;
@@ -31,36 +32,6 @@ impl From<Memory> for CacheFault {
 
     fn from(_: Memory) -> CacheFault {
         CacheFault::Memory
-    }
-}
-
-/// Reads a page from the disk.
-fn read_from<D: Disk>(disk: &mut D, page: u64, into: &mut [u8; 4_096]) -> Result<(), CacheFault>
-    ensures gives { OnOk result (ReadPage (D.pages disk.old) page into.new (D.pages disk.new)) }
-    ensures err { OnErr result (D.pages disk.new ≡ D.pages disk.old) }
-    ensures rose { IsErrOf result CacheFault.Disk → Rose (D.faults disk.old) (D.faults disk.new) }
-    ensures steady { OnOk result (D.faults disk.new ≡ D.faults disk.old) }
-    ensures never_falls { D.faults disk.old ≤ D.faults disk.new }
-{
-    match disk.read(page, into) {
-        Ok(()) => Ok(()),
-        Err(DiskError::Failed) => Err(CacheFault::Disk),
-        Err(DiskError::Memory) => Err(CacheFault::Memory),
-    }
-}
-
-/// Writes a page to the disk.
-fn write_to<D: Disk>(disk: &mut D, page: u64, bytes: &[u8; 4_096]) -> Result<(), CacheFault>
-    ensures wrote { OnOk result (WrotePage (D.pages disk.old) page bytes.now (D.pages disk.new)) }
-    ensures err { OnErr result (D.pages disk.new ≡ D.pages disk.old) }
-    ensures rose { IsErrOf result CacheFault.Disk → Rose (D.faults disk.old) (D.faults disk.new) }
-    ensures steady { OnOk result (D.faults disk.new ≡ D.faults disk.old) }
-    ensures never_falls { D.faults disk.old ≤ D.faults disk.new }
-{
-    match disk.write(page, bytes) {
-        Ok(()) => Ok(()),
-        Err(DiskError::Failed) => Err(CacheFault::Disk),
-        Err(DiskError::Memory) => Err(CacheFault::Memory),
     }
 }
 
