@@ -1,14 +1,15 @@
 //! A cache over a disk: pages that were read or written are held, the least recently used leaves.
 
-ghost use Rattle.std.specs.Prelude.{◌≡◌, ℕ, ◌<◌, ◌≤◌, List, length, Some, None, [], IfOk, OnOk, OnErr, IsErrOf, IsTrue, is_some, true, false};
+ghost use Rattle.std.specs.Prelude.{◌≡◌, ℕ, ◌<◌, ◌≤◌, List, length, Some, None, [], IfOk, OnOk, OnErr, IsErrOf, IsTrue, IsOk, is_some, true, false};
 ghost use Rattle.dds_base.specs.Outside.{Rose};
 ghost use Rattle.dds_disk.specs.Pages.{ReadPage, WrotePage};
 ghost use Rattle.dds_cache.specs.declared.cache.CacheFault.TheVariants.{Memory as NoMemory};
 ghost use Rattle.dds_cache.specs.Kept.{CacheState, held, after_use};
 
+use crate::calls::{read_from, write_to};
 use crate::recent::{hold, hold_again, look, take_back, trim};
 use dds_base::memory::Memory;
-use dds_disk::disk::{Disk, DiskError};
+use dds_disk::disk::Disk;
 use dds_disk::page::Page;
 use lru::LruCache;
 use std::alloc::Global;
@@ -31,36 +32,6 @@ impl From<Memory> for CacheFault {
 
     fn from(_: Memory) -> CacheFault {
         CacheFault::Memory
-    }
-}
-
-/// Reads a page from the disk.
-fn read_from<D: Disk>(disk: &mut D, page: u64, into: &mut [u8; 4_096]) -> Result<(), CacheFault>
-    ensures gives { OnOk result (ReadPage (D.pages disk.old) page into.new (D.pages disk.new)) }
-    ensures err { OnErr result (D.pages disk.new ≡ D.pages disk.old) }
-    ensures rose { IsErrOf result CacheFault.Disk → Rose (D.faults disk.old) (D.faults disk.new) }
-    ensures steady { OnOk result (D.faults disk.new ≡ D.faults disk.old) }
-    ensures never_falls { D.faults disk.old ≤ D.faults disk.new }
-{
-    match disk.read(page, into) {
-        Ok(()) => Ok(()),
-        Err(DiskError::Failed) => Err(CacheFault::Disk),
-        Err(DiskError::Memory) => Err(CacheFault::Memory),
-    }
-}
-
-/// Writes a page to the disk.
-fn write_to<D: Disk>(disk: &mut D, page: u64, bytes: &[u8; 4_096]) -> Result<(), CacheFault>
-    ensures wrote { OnOk result (WrotePage (D.pages disk.old) page bytes.now (D.pages disk.new)) }
-    ensures err { OnErr result (D.pages disk.new ≡ D.pages disk.old) }
-    ensures rose { IsErrOf result CacheFault.Disk → Rose (D.faults disk.old) (D.faults disk.new) }
-    ensures steady { OnOk result (D.faults disk.new ≡ D.faults disk.old) }
-    ensures never_falls { D.faults disk.old ≤ D.faults disk.new }
-{
-    match disk.write(page, bytes) {
-        Ok(()) => Ok(()),
-        Err(DiskError::Failed) => Err(CacheFault::Disk),
-        Err(DiskError::Memory) => Err(CacheFault::Memory),
     }
 }
 
@@ -138,6 +109,27 @@ impl<D: Disk> Cache<D> {
         let _capacity = self.capacity;
     }
 
+    /// Copies the page to `into`, of which nothing is said after an error. One that is held is given with no call of the
+    /// disk, and any other with one read. The page is then the one that was used last, and it is held as it was given.
+    pub fn read_into(&mut self, page: u64, into: &mut [u8; 4_096]) -> Result<(), CacheFault>
+        ensures held { (bytes : List ℕ) → held self.old.kept page ≡ Some bytes → IsOk result × (into.new ≡ bytes) × (self.new.disk ≡ self.old.disk) }
+        ensures gives { OnOk result (ReadPage (D.pages self.old.disk) page into.new (D.pages self.new.disk)) }
+        ensures kept { OnOk result (self.new.kept ≡ after_use self.old.capacity self.old.kept page into.new) }
+        ensures given { OnOk result (held self.new.kept page ≡ Some into.new) }
+        ensures capacity { self.new.capacity ≡ self.old.capacity }
+        ensures err_pages { OnErr result (D.pages self.new.disk ≡ D.pages self.old.disk) }
+        ensures err_kept { OnErr result (self.new.kept ≡ self.old.kept) }
+        ensures rose { IsErrOf result CacheFault.Disk → Rose (D.faults self.old.disk) (D.faults self.new.disk) }
+        ensures steady { OnOk result (D.faults self.new.disk ≡ D.faults self.old.disk) }
+        ensures never_falls { D.faults self.old.disk ≤ D.faults self.new.disk }
+    {
+        self.may_hold();
+        if !self.find(page, into) {
+            self.fetch(page, into)?;
+        }
+        Ok(())
+    }
+
     /// Gives the page. One that is held is given with no call of the disk, and any other with one
     /// read. The page is then the one that was used last, and it is held as it was given.
     pub fn read(&mut self, page: u64) -> Result<[u8; 4_096], CacheFault>
@@ -152,11 +144,8 @@ impl<D: Disk> Cache<D> {
         ensures steady { OnOk result (D.faults self.new.disk ≡ D.faults self.old.disk) }
         ensures never_falls { D.faults self.old.disk ≤ D.faults self.new.disk }
     {
-        self.may_hold();
         let mut bytes = [0; 4_096];
-        if !self.find(page, &mut bytes) {
-            self.fetch(page, &mut bytes)?;
-        }
+        self.read_into(page, &mut bytes)?;
         Ok(bytes)
     }
 

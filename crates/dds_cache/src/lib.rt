@@ -2,4 +2,5 @@
 #![tactic(auto)]
 
 pub mod cache;
+mod calls;
 mod recent;

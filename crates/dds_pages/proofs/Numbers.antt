@@ -1,11 +1,13 @@
 -- Laws of the fields of a page.
-use Rattle.std.proofs.Common.{ℕ, ◌≡◌, ◌+◌, ◌-◌, ◌^◌, ◌<◌, ◌≤◌, List, ◌++◌, length, take, drop, slice_index_or, replicate, sym, ◌∙◌, ap, arith, length-append, length-drop}
-use Rattle.std.proofs.lemmas.List.{get_or-drop, drop-replicate, take-append-drop, length-take}
+use Rattle.std.proofs.Common.{ℕ, zero, suc, nat_eq, ◌&&◌, Bool, [], ◌∷◌, refl, ◌≡◌, ◌+◌, ◌-◌, ◌^◌, ◌<◌, ◌≤◌, List, ◌++◌, length, take, drop, slice_index_or, replicate, sym, ◌∙◌, ap, arith, length-append, length-drop}
+use lib.Pointwise.{pointwise}
+use Rattle.std.specs.List.{list_all}
+use Rattle.std.proofs.lemmas.List.{get_or-drop, drop-replicate, take-append-drop, length-take, length-replicate, replicate-append-replicate}
 use Rattle.std.proofs.Math.Seq.{drop-append_seam, drop-append-add}
 use Rattle.byteorder.specs.Endian.{big_number}
 use Rattle.byteorder.specs.Numbers.{length-bytes_high_first, big_number-reads_back}
 use Rattle.std.proofs.lemmas.Grind.{common_steps}
-use Rattle.dds_pages.specs.Fields.{number_at, spelled, padded, IsWritten}
+use Rattle.dds_pages.specs.Fields.{number_at, spelled, padded, zero_from, IsWritten}
 
 -- a byte is the number of one byte
 pub byte-number : (bytes : List ℕ) (at : ℕ) → at < length bytes → slice_index_or bytes at 0 ≡ number_at bytes at 1
@@ -57,3 +59,23 @@ reads-spelled n x rest h = big_number-reads_back n x rest h
 pub number-behind : (xs ys : List ℕ) (at n : ℕ) → number_at (xs ++ ys) (length xs + at) n ≡ number_at ys at n
 unfolding number_at
 number-behind xs ys at n = ap (big_number n) (drop-append-add xs ys at)
+
+-- zeros in place of the first bytes make a page of zeros
+pub cleared : (page new : List ℕ) (at k : ℕ) → IsWritten page at → k ≡ at → new ≡ replicate k 0 → IsWritten (new ++ drop at page) 0
+cleared page new at k w e is =
+    let whole : at + (4096 - at) ≡ 4096 = omega (arith, w.within) in
+    let all : replicate at 0 ++ replicate (4096 - at) 0 ≡ replicate 4096 0 = replicate-append-replicate at (4096 - at) 0 ∙ ap (λ (i : ℕ). replicate i 0) whole in
+    let zeros : new ++ drop at page ≡ replicate 4096 0 = ap (λ (xs : List ℕ). xs ++ drop at page) (is ∙ ap (λ (i : ℕ). replicate i 0) e) ∙ ap (λ (xs : List ℕ). replicate at 0 ++ xs) w.zeros ∙ all in
+    record { long = ap length zeros ∙ length-replicate {A = ℕ} 4096 0; within = omega arith; zeros = zeros }
+
+-- as many bytes as there are zeros are equal to them where each is zero
+zeros-as-long : (n : ℕ) (xs : List ℕ) → length xs ≡ n → pointwise nat_eq xs (replicate n 0) ≡ list_all (λ byte. nat_eq byte 0) xs
+zeros-as-long zero [] h = refl
+zeros-as-long zero (x ∷ xs) h = absurd (omega (arith, h))
+zeros-as-long (suc n) [] h = absurd (omega (arith, h))
+zeros-as-long (suc n) (x ∷ xs) h = ap (λ (b : Bool). nat_eq x 0 && b) (zeros-as-long n xs (omega (arith, h)))
+
+pub zeros-equal : (bytes tail zeros : List ℕ) (at : ℕ) (same : Bool) → length tail + at ≡ 4096 → tail ≡ drop at bytes → zeros ≡ drop at (replicate 4096 0) → same ≡ pointwise nat_eq tail zeros → same ≡ zero_from bytes at
+zeros-equal bytes tail zeros at same long t z e =
+    let l : length (drop at bytes) ≡ 4096 - at = ap length (sym t) ∙ omega (arith, long) in
+    e ∙ ap (λ (xs : List ℕ). pointwise nat_eq xs zeros) t ∙ ap (pointwise nat_eq (drop at bytes)) (z ∙ drop-replicate at 4096 0) ∙ zeros-as-long (4096 - at) (drop at bytes) l

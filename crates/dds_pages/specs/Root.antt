@@ -25,6 +25,10 @@ root_fault version bytes =
 abbrev pub root_of : List ℕ → Root
 root_of bytes = record { pairs = number_at bytes 4 4; firsts = numbers_at bytes 16 256 }
 
+-- the bytes of a root page before its first pages
+abbrev pub root_head : ℕ → ℕ → List ℕ
+root_head version pairs = spelled 1 1 ++ (spelled 1 version ++ (spelled 2 0 ++ (spelled 4 pairs ++ spelled 8 0)))
+
 -- the bytes of a root page
 abbrev pub root_bytes : ℕ → Root → List ℕ
 root_bytes version root =

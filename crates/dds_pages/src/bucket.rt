@@ -1,7 +1,7 @@
 //! A page of a bucket's pairs.
 
 ghost use Rattle.std.specs.Prelude.{◌≡◌, ◌+◌, ◌≤◌, ◌<◌, ◌==◌, None, length, Option, IfOk};
-ghost use Rattle.dds_pages.specs.Fields.{form_2, number_at};
+ghost use Rattle.dds_pages.specs.Fields.{form_2, number_at, padded};
 ghost use Rattle.dds_pages.specs.Bucket.{Bucket, FitsAPage, IsBucketRead, head_fault, bucket_bytes};
 
 use crate::fault::PageFault;
@@ -141,19 +141,27 @@ impl BucketPage {
         )
     }
 
-    /// Writes a page of version 2.
-    pub fn write(&self) -> [u8; 4_096]
-        ensures { result ≡ bucket_bytes self.now }
+    /// Writes a page of version 2 in place of what was written.
+    pub fn write_in(&self, writer: &mut PageWriter)
+        ensures { padded writer.new ≡ bucket_bytes self.now }
     {
         let pairs = self.pairs.as_slice();
-        let mut writer = PageWriter::new();
+        writer.clear();
         writer.put_byte(2);
         writer.put_byte(2);
         writer.put_2(pairs.len() as u16);
         writer.put_8(self.next);
         writer.put_2(16 + total_width(pairs) as u16);
         writer.put_2(0);
-        put_pairs(&mut writer, pairs);
+        put_pairs(writer, pairs);
+    }
+
+    /// Writes a page of version 2.
+    pub fn write(&self) -> [u8; 4_096]
+        ensures { result ≡ bucket_bytes self.now }
+    {
+        let mut writer = PageWriter::new();
+        self.write_in(&mut writer);
         writer.finish()
     }
 }

@@ -1,12 +1,14 @@
 //! Reading the fields of a page.
 
-ghost use Rattle.std.specs.Prelude.{◌≡◌, ◌+◌, ◌^◌, ◌<◌, ◌≤◌, drop, take, length, nat_eq, IfOk};
-ghost use Rattle.std.specs.List.{list_all};
+ghost use Rattle.std.specs.Prelude.{◌≡◌, ◌+◌, ◌^◌, ◌<◌, ◌≤◌, drop, take, length, IfOk};
 ghost use Rattle.dds_pages.specs.Fields.{number_at, zero_from};
 
 use byteorder::{BigEndian, ByteOrder};
 use dds_base::memory::Memory;
 use std::alloc::Global;
+
+/// A page of zeros.
+static ZEROS: [u8; 4_096] = [0; 4_096];
 
 /// Which bucket pages are read: their version, and whether values above 4,000 bytes stand in chains
 /// of overflow pages, or nowhere.
@@ -75,17 +77,10 @@ pub(crate) fn bytes_at(
     Ok(Vec::from_slice(alloc, &tail(page, at)[..n])?)
 }
 
-/// Whether each byte is zero.
-fn is_zero(bytes: &[u8]) -> bool
-    ensures { result ≡ list_all (λ byte. nat_eq byte 0) bytes.now }
-{
-    bytes.iter().all(|byte| *byte == 0)
-}
-
 /// Whether each byte from a place on is zero.
 pub(crate) fn is_zero_from(page: &[u8; 4_096], at: usize) -> bool
     requires { at ≤ 4096 }
     ensures { result ≡ zero_from page.now at }
 {
-    is_zero(tail(page, at))
+    *tail(page, at) == *tail(&ZEROS, at)
 }

@@ -8,4 +8,4 @@ pub mod old;
 pub mod overflow;
 pub mod pairs;
 pub mod root;
-mod writer;
+pub mod writer;

@@ -1,7 +1,7 @@
 //! A page of a long value's bytes.
 
 ghost use Rattle.std.specs.Prelude.{◌≡◌, ◌<◌, ◌≤◌, ◌==◌, None, length, Option, IfOk};
-ghost use Rattle.dds_pages.specs.Fields.{number_at};
+ghost use Rattle.dds_pages.specs.Fields.{number_at, padded};
 ghost use Rattle.dds_pages.specs.Overflow.{Overflow, IsOverflowRead, overflow_fault, overflow_bytes};
 
 use crate::fault::PageFault;
@@ -109,17 +109,25 @@ impl OverflowPage {
         read_overflow(alloc, page)
     }
 
-    /// Writes a page of version 2.
-    pub fn write(&self) -> [u8; 4_096]
-        ensures { result ≡ overflow_bytes self.now }
+    /// Writes a page of version 2 in place of what was written.
+    pub fn write_in(&self, writer: &mut PageWriter)
+        ensures { padded writer.new ≡ overflow_bytes self.now }
     {
-        let mut writer = PageWriter::new();
+        writer.clear();
         writer.put_byte(3);
         writer.put_byte(2);
         writer.put_2(self.bytes.len() as u16);
         writer.put_8(self.next);
         writer.put_4(0);
         writer.put(self.bytes.as_slice());
+    }
+
+    /// Writes a page of version 2.
+    pub fn write(&self) -> [u8; 4_096]
+        ensures { result ≡ overflow_bytes self.now }
+    {
+        let mut writer = PageWriter::new();
+        self.write_in(&mut writer);
         writer.finish()
     }
 }

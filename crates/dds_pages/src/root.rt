@@ -2,7 +2,7 @@
 
 ghost use Rattle.std.specs.Prelude.{◌≡◌, ◌<◌, ◌≤◌, ◌==◌, ◌-◌, ◌^◌, length, replicate, slice_index, slice_set, Option, ◌++◌, flat_map, IfOk};
 ghost use Rattle.dds_pages.specs.Fields.{spelled};
-ghost use Rattle.dds_pages.specs.Root.{Root, IsRootRead, root_fault, root_bytes, numbers_at};
+ghost use Rattle.dds_pages.specs.Root.{Root, IsRootRead, root_fault, root_head, root_bytes, numbers_at};
 
 use crate::fault::{NO_PAGE, PageFault};
 use crate::fields::{byte_at, is_zero_from, number2_at, number4_at, number8_at};
@@ -134,14 +134,23 @@ impl RootPage {
         ensures { result ≡ root_bytes 2 self.now }
     {
         let mut writer = PageWriter::new();
-        writer.put_byte(1);
-        writer.put_byte(2);
-        writer.put_2(0);
-        writer.put_4(self.pairs);
-        writer.put_8(0);
+        put_head(&mut writer, self.pairs);
         put_all(&mut writer, &self.firsts);
         writer.finish()
     }
+}
+
+/// Writes the bytes of a root page of version 2 before its first pages, in place of what was written.
+pub fn put_head(writer: &mut PageWriter, pairs: u32)
+    ensures written { writer.new ≡ root_head 2 pairs }
+    ensures len { length writer.new ≡ 16 }
+{
+    writer.clear();
+    writer.put_byte(1);
+    writer.put_byte(2);
+    writer.put_2(0);
+    writer.put_4(pairs);
+    writer.put_8(0);
 }
 
 /// Writes the first pages.

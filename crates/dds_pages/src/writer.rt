@@ -8,7 +8,7 @@ use std::marker::Model;
 
 /// A page whose first bytes were written; the others are zero.
 #[derive(Drop)]
-pub(crate) struct PageWriter {
+pub struct PageWriter {
     page: [u8; 4_096],
     at: usize,
 }
@@ -26,7 +26,7 @@ impl Model for PageWriter {
 
 impl PageWriter {
     /// Nothing was written.
-    pub(crate) fn new() -> PageWriter
+    pub fn new() -> PageWriter
         ensures { result ≡ [] }
     {
         PageWriter {
@@ -35,8 +35,16 @@ impl PageWriter {
         }
     }
 
+    /// Forgets what was written.
+    pub fn clear(&mut self)
+        ensures { self.new ≡ [] }
+    {
+        self.page[..self.at].fill(0);
+        self.at = 0;
+    }
+
     /// Writes some bytes.
-    pub(crate) fn put(&mut self, bytes: &[u8])
+    pub fn put(&mut self, bytes: &[u8])
         requires { length self.old + length bytes.now ≤ 4096 }
         ensures written { self.new ≡ self.old ++ bytes.now }
         ensures len { length self.new ≡ length self.old + length bytes.now }
@@ -48,7 +56,7 @@ impl PageWriter {
 
     /// Writes a number in a byte.
     #[tactic(auto, unfolding(crate::specs::Fields::spelled))]
-    pub(crate) fn put_byte(&mut self, number: u8)
+    pub fn put_byte(&mut self, number: u8)
         requires { length self.old + 1 ≤ 4096 }
         ensures written { self.new ≡ self.old ++ spelled 1 number }
         ensures len { length self.new ≡ length self.old + 1 }
@@ -58,7 +66,7 @@ impl PageWriter {
 
     /// Writes a number in 2 bytes.
     #[tactic(auto, unfolding(crate::specs::Fields::spelled))]
-    pub(crate) fn put_2(&mut self, number: u16)
+    pub fn put_2(&mut self, number: u16)
         requires { length self.old + 2 ≤ 4096 }
         ensures written { self.new ≡ self.old ++ spelled 2 number }
         ensures len { length self.new ≡ length self.old + 2 }
@@ -68,7 +76,7 @@ impl PageWriter {
 
     /// Writes a number in 4 bytes.
     #[tactic(auto, unfolding(crate::specs::Fields::spelled))]
-    pub(crate) fn put_4(&mut self, number: u32)
+    pub fn put_4(&mut self, number: u32)
         requires { length self.old + 4 ≤ 4096 }
         ensures written { self.new ≡ self.old ++ spelled 4 number }
         ensures len { length self.new ≡ length self.old + 4 }
@@ -78,7 +86,7 @@ impl PageWriter {
 
     /// Writes a number in 8 bytes.
     #[tactic(auto, unfolding(crate::specs::Fields::spelled))]
-    pub(crate) fn put_8(&mut self, number: u64)
+    pub fn put_8(&mut self, number: u64)
         requires { length self.old + 8 ≤ 4096 }
         ensures written { self.new ≡ self.old ++ spelled 8 number }
         ensures len { length self.new ≡ length self.old + 8 }
@@ -86,8 +94,15 @@ impl PageWriter {
         self.put(&number.to_be_bytes());
     }
 
+    /// The page as it is so far.
+    pub fn page(&self) -> &[u8; 4_096]
+        ensures { result.now ≡ padded self.now }
+    {
+        &self.page
+    }
+
     /// The page.
-    pub(crate) fn finish(self) -> [u8; 4_096]
+    pub fn finish(self) -> [u8; 4_096]
         ensures { result ≡ padded self }
     {
         self.page

@@ -8,7 +8,7 @@ use Rattle.std.specs.FinMap.{empty, insert, contains_key, len, len-insert, len-e
 use Rattle.dds_disk.specs.Pages.{Pages}
 use Rattle.dds_base.specs.Name.{Name}
 use Rattle.dds_base.specs.declared.pair.Pair.{Pair}
-use Rattle.dds_table.specs.Content.{Map}
+use Rattle.dds_chains.specs.Content.{Map}
 use Rattle.dds_table.specs.Store.{Named, has_table, maps_of, map_named, with_map, Holds}
 use Rattle.dds_table.specs.Lift.{bind_all, map_of}
 use Rattle.dds_table.proofs.NamedMaps.{has-maps, map-with, with-with, with-self}

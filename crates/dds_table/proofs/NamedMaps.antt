@@ -6,7 +6,7 @@ use Rattle.std.proofs.lemmas.Nat.{pow_pos}
 use Rattle.dds_disk.specs.Pages.{Pages}
 use Rattle.dds_base.specs.Name.{Name, same_name}
 use Rattle.dds_groups.specs.Names.{low_half, high_half}
-use Rattle.dds_table.specs.Content.{Map, content}
+use Rattle.dds_chains.specs.Content.{Map, content}
 use Rattle.dds_table.specs.Store.{Named, names, maps_of, place_named, has_table, map_named, with_map, without_table}
 use Rattle.dds_table.specs.Split.{is_among}
 

@@ -9,14 +9,14 @@ use Rattle.dds_base.specs.Name.{Name, covers, same_name}
 use Rattle.dds_base.specs.Place.{bucket as bucket_no}
 use Rattle.dds_groups.specs.Names.{low_half, high_half}
 use Rattle.dds_groups.proofs.NameHalves.{halves-cover, halves-apart}
-use Rattle.dds_table.specs.Content.{Map, content}
-use Rattle.dds_table.specs.Index.{AreKeysOf, IsIndex, IsTable, found, slot_value}
+use Rattle.dds_chains.specs.Content.{Map, content}
+use Rattle.dds_chains.specs.Index.{AreKeysOf, IsIndex, IsTable, found, slot_value}
 use Rattle.dds_table.specs.Split.{covered, KeysAreOf, IsParted}
 use Rattle.dds_table.specs.Store.{named, maps_of, map_named, AllIndex, AllTables}
-use Rattle.dds_table.specs.declared.table.Slot.{Slot}
-use Rattle.dds_table.specs.declared.table.Table.{Table}
-use Rattle.dds_table.proofs.Adding.{is-at}
-use Rattle.dds_table.proofs.Contents.{content-found}
+use Rattle.dds_chains.specs.declared.table.Slot.{Slot}
+use Rattle.dds_chains.specs.declared.table.Table.{Table}
+use Rattle.dds_chains.proofs.Adding.{is-at}
+use Rattle.dds_chains.proofs.Contents.{content-found}
 
 -- a key that a chain has is covered by the table's name
 found-covered : (a : Pages) (name : Name) (b : ℕ) (slots : List Slot) (q : ℕ) → AreKeysOf name b slots → is_some (found a slots q) ≡ true → covers name q ≡ true

@@ -7,10 +7,10 @@ use Rattle.std.specs.FinMap.{nat_cmp-IsAntisymmetric, get, insert, remove, empty
 use Rattle.dds_disk.specs.Pages.{Pages}
 use Rattle.dds_base.specs.Name.{Name, covers}
 use Rattle.dds_groups.specs.Names.{low_half, high_half}
-use Rattle.dds_table.specs.Content.{Map}
+use Rattle.dds_chains.specs.Content.{Map}
 use Rattle.dds_table.specs.Store.{Named, maps_of, has_table, map_named, with_map, without_table, Holds}
 use Rattle.dds_table.specs.Split.{covered, halves_of, put_covered, moved, if_covered, either_of, IsParting, IsMoving, Moves, IsTurn}
-use Rattle.dds_table.proofs.Adding.{same-content, is-at}
+use Rattle.dds_chains.proofs.Adding.{same-content, is-at}
 use Rattle.dds_table.proofs.NamedMaps.{has_map, without_map, has-maps, same-self, halves-differ, map-front, with-front, map-behind, with-behind, has-with, map-with, with-with, with-self, maps-without, without-with}
 
 -- a key that is bound again in one half, or that the half doesn't cover

@@ -1,26 +1,25 @@
 -- The tables of a store.
 use Rattle.std.proofs.Common.{ℕ, zero, suc, ◌≡◌, ◌+◌, ◌<◌, ◌≤◌, cond, Bool, true, false, List, [], ◌∷◌, ◌++◌, length, get_or, set, Option, Some, None, refl, sym, ap, subst, ◌∙◌, arith}
 use Rattle.std.proofs.Math.ListN.{length-set}
-use Rattle.std.proofs.Common.{length-append, take}
+use Rattle.std.proofs.Common.{length-append}
 use Rattle.std.specs.List.{remove}
-use Rattle.std.proofs.lemmas.List.{take_more}
-use Rattle.std.specs.Option.{option_map, option_to_list}
+use Rattle.std.specs.Option.{option_map}
 use Rattle.std.proofs.lemmas.Bool.Decides.{nat_tests}
 use Rattle.std.specs.FinMap.{empty, contains_key, len}
 use Rattle.dds_disk.specs.Pages.{Pages, page_at}
 use Rattle.dds_base.specs.Name.{Name, same_name}
-use Rattle.dds_table.specs.Content.{Map, content}
+use Rattle.dds_chains.specs.Content.{Map, content}
 use Rattle.dds_base.specs.Place.{bucket as bucket_no}
-use Rattle.dds_table.specs.Index.{vacant, slot_uses, chain_uses, buckets_use, table_uses, tables_use, IsIndex, IsTable}
-use Rattle.dds_table.specs.declared.table.Slot.{Slot}
-use Rattle.dds_table.specs.Answers.{Changed, Made, KeepsUsed}
+use Rattle.dds_chains.specs.Index.{vacant, table_uses, tables_use, IsIndex, IsTable}
+use Rattle.dds_chains.specs.Answers.{Changed, Made, KeepsUsed}
 use Rattle.dds_table.specs.Store.{Named, named, names, maps_of, place_named, map_named, with_map, without_table, AllIndex, AllTables, IsStore, Unless, Holds}
-use Rattle.dds_table.specs.declared.table.Table.{Table}
-use Rattle.dds_table.proofs.Uses.{same-self, bucket-within}
-use Rattle.dds_table.proofs.Chains.{Kept, chain-kept, found-kept}
-use Rattle.dds_table.proofs.Contents.{content-found, content-len}
-use Rattle.dds_table.proofs.Adding.{same-content}
-use Rattle.dds_table.proofs.Slots.{later, before, first-not}
+use Rattle.dds_chains.specs.declared.table.Table.{Table}
+use Rattle.dds_chains.proofs.Releasing.{uses-push}
+use Rattle.dds_chains.proofs.Uses.{same-self, bucket-within}
+use Rattle.dds_chains.proofs.Chains.{Kept, chain-kept, found-kept}
+use Rattle.dds_chains.proofs.Contents.{content-found, content-len}
+use Rattle.dds_chains.proofs.Adding.{same-content}
+use Rattle.dds_chains.proofs.Slots.{later, before, first-not}
 
 pub unless-false : (b : Bool) (P : Type 0) → b ≡ false → Unless b P → P
 unless-false true P e u = cc
@@ -188,10 +187,6 @@ maps-push : (a : Pages) (ns : List Named) (n : Named) → maps_of a (ns ++ n ∷
 maps-push a [] n = refl
 maps-push a (x ∷ xs) n = ap (λ (ms : List (Name × Map)). (x.0, content a x.1) ∷ ms) (maps-push a xs n)
 
-uses-push : (n : ℕ) (tables : List Table) (t : Table) → tables_use n (tables ++ t ∷ []) ≡ tables_use n tables + table_uses n t
-uses-push n [] t = omega arith
-uses-push n (x ∷ xs) t = let r = uses-push n xs t in omega arith
-
 index-push : (tables : List Table) (t : Table) → AllIndex tables → IsIndex t → AllIndex (tables ++ t ∷ [])
 index-push [] t h x = (x, tt)
 index-push (y ∷ ys) t h x = (h.0, index-push ys t h.1 x)
@@ -291,25 +286,6 @@ named-less (x ∷ xs) name (suc i) h = (elim (same_name x.name name) as (λ u. s
   | true ↦ λ u h. absurd (first-not h)
   | false ↦ λ u h. ap (λ (ns : List Named). (x.name, x.root) ∷ ns) (named-less xs name i (before (place_named (named xs) name) i h))
 ]) refl h
-
-uses-chain : (n : ℕ) (slots : List Slot) (slot s : Slot) → slot ≡ s → chain_uses n (slots ++ s ∷ []) ≡ chain_uses n slots + slot_uses n slot
-uses-chain n [] slot s e = let k = ap (slot_uses n) e in omega arith
-uses-chain n (x ∷ xs) slot s e = let r = uses-chain n xs slot s e in omega arith
-
-uses-buckets : (n : ℕ) (buckets : List (List Slot)) (slots s : List Slot) → slots ≡ s → buckets_use n (buckets ++ s ∷ []) ≡ buckets_use n buckets + chain_uses n slots
-uses-buckets n [] slots s e = let k = ap (chain_uses n) e in omega arith
-uses-buckets n (x ∷ xs) slots s e = let r = uses-buckets n xs slots s e in omega arith
-
--- the counts of a chain's and a table's pages, as they are taken back
-pub chain-more : (n : ℕ) (items slots : List Slot) (i : ℕ) (slot : Slot) → items ≡ slots → i < length items → slot ≡ get_or items i slot → chain_uses n (take (i + 1) slots) ≡ chain_uses n (take i slots) + slot_uses n slot
-chain-more n items slots i slot e below is = subst (λ (ss : List Slot). chain_uses n (take (i + 1) ss) ≡ chain_uses n (take i ss) + slot_uses n slot) e (ap (chain_uses n) (take_more items i slot below) ∙ uses-chain n (take i items) slot (get_or items i slot) is)
-
-pub buckets-more : (n : ℕ) (items buckets : List (List Slot)) (i : ℕ) (slots : List Slot) → items ≡ buckets → i < length items → slots ≡ get_or items i slots → buckets_use n (take (i + 1) buckets) ≡ buckets_use n (take i buckets) + chain_uses n slots
-buckets-more n items buckets i slots e below is = subst (λ (bs : List (List Slot)). buckets_use n (take (i + 1) bs) ≡ buckets_use n (take i bs) + chain_uses n slots) e (ap (buckets_use n) (take_more items i slots below) ∙ uses-buckets n (take i items) slots (get_or items i slots) is)
-
--- the table that was dropped last
-pub popped : (n : ℕ) (old new : List Table) (o : Option Table) (t : Table) → old ≡ new ++ option_to_list o → o ≡ Some t → tables_use n old ≡ tables_use n new + table_uses n t
-popped n old new o t e is = ap (tables_use n) (e ∙ ap (λ (p : Option Table). new ++ option_to_list p) is) ∙ uses-push n new t
 
 pub unless : (b : Bool) (P : Type 0) → P → Unless b P
 unless true P h = tt

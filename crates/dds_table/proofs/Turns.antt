@@ -5,13 +5,13 @@ use Rattle.std.specs.FinMap.{get, insert, empty, len}
 use Rattle.dds_disk.specs.Pages.{Pages}
 use Rattle.dds_base.specs.Name.{Name, covers, same_name}
 use Rattle.dds_groups.specs.Names.{low_half, high_half}
-use Rattle.dds_table.specs.Content.{Map}
+use Rattle.dds_chains.specs.Content.{Map}
 use Rattle.dds_table.specs.Store.{Named, names, maps_of, has_table, map_named, with_map, Holds}
-use Rattle.dds_table.specs.Part.{IsPart}
+use Rattle.dds_chains.specs.Part.{IsPart}
 use Rattle.dds_base.specs.declared.pair.Pair.{Pair}
 use Rattle.dds_table.proofs.Stores.{same-pages}
 use Rattle.dds_table.specs.Split.{halves_of, put_covered, moved, Moves, HasRoom, IsTurn}
-use Rattle.dds_table.proofs.Adding.{is-at}
+use Rattle.dds_chains.proofs.Adding.{is-at}
 use Rattle.dds_table.proofs.NamedMaps.{has-maps, halves-differ, map-behind, has-with, map-other, whole-low, whole-high}
 use Rattle.dds_table.proofs.Splits.{some-len, moved-map, at-low, at-high, moving-start, turn-moving}
 

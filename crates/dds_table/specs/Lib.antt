@@ -1,10 +1,7 @@
-pub mod Content
-pub mod Index
-pub mod Answers
 pub mod Lawful
 pub mod Store
-pub mod Part
 pub mod Split
 pub mod Old
 pub mod Lift
 pub mod Places
+pub mod Met

@@ -4,11 +4,11 @@ use Rattle.std.specs.FinMap.{empty, insert}
 use Rattle.dds_disk.specs.Pages.{Pages, page_at}
 use Rattle.dds_base.specs.Name.{Name}
 use Rattle.dds_base.specs.declared.pair.Pair.{Pair}
-use Rattle.dds_table.specs.Content.{Map}
+use Rattle.dds_chains.specs.Content.{Map}
 use Rattle.dds_table.specs.Store.{Named, with_map, Holds}
 use Rattle.dds_table.specs.Old.{IsWalked}
 use Rattle.dds_pages.specs.Said.{old_root_in}
-use Rattle.dds_table.specs.declared.fault.TableFault.{TableFault}
+use Rattle.dds_chains.specs.declared.fault.TableFault.{TableFault}
 use Rattle.dds_table.specs.declared.fault.LiftFault.{LiftFault}
 use Rattle.dds_table.specs.declared.fault.LiftFault.TheVariants.{Old, Page, Store, Memory}
 

@@ -4,7 +4,7 @@ use Rattle.std.specs.FinMap.{get, insert, remove, retain_keys, contains_key, len
 use Rattle.dds_disk.specs.Pages.{Pages}
 use Rattle.dds_base.specs.Name.{Name, covers, same_name}
 use Rattle.dds_groups.specs.Names.{low_half, high_half}
-use Rattle.dds_table.specs.Content.{Map}
+use Rattle.dds_chains.specs.Content.{Map}
 use Rattle.dds_table.specs.Store.{Named, maps_of, map_named, with_map, Holds}
 
 -- the pairs of a map whose keys a name covers

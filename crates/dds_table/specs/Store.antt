@@ -5,10 +5,10 @@ use Rattle.std.specs.FinMap.{empty}
 use Rattle.dds_disk.specs.Pages.{Pages}
 use Rattle.dds_base.specs.Name.{Name, same_name}
 use Rattle.dds_cache.specs.Kept.{CacheState, cache_code}
-use Rattle.dds_table.specs.Content.{Map, content}
-use Rattle.dds_table.specs.Index.{vacant, tables_use, IsIndex, IsTable}
-use Rattle.dds_table.specs.declared.table.Slot.{Slot}
-use Rattle.dds_table.specs.declared.table.Table.{Table}
+use Rattle.dds_chains.specs.Content.{Map, content}
+use Rattle.dds_chains.specs.Index.{vacant, tables_use, IsIndex, IsTable}
+use Rattle.dds_chains.specs.declared.table.Slot.{Slot}
+use Rattle.dds_chains.specs.declared.table.Table.{Table}
 
 -- a table's name and its root page
 abbrev pub Named : Type 0

@@ -4,7 +4,7 @@ ghost use Rattle.std.specs.Prelude.{◌≡◌, ◌≤◌, Some, None, true, fals
 ghost use Rattle.std.specs.FinMap.{len as size};
 ghost use Rattle.dds_base.specs.Outside.{Rose};
 ghost use Rattle.dds_disk.specs.Pages.{Pages};
-ghost use Rattle.dds_table.specs.Answers.{IsNoPage};
+ghost use Rattle.dds_chains.specs.Answers.{IsNoPage};
 ghost use Rattle.dds_table.specs.Lawful.{IsRefused as IsPageRefused};
 ghost use Rattle.dds_table.specs.Store.{has_table, maps_of, map_named, with_map, Holds};
 ghost use Rattle.dds_table.specs.Old.{AreCovered};

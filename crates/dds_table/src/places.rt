@@ -6,9 +6,9 @@ ghost use Rattle.dds_base.specs.Name.{Name, same_name};
 ghost use Rattle.dds_table.specs.Store.{named, place_named, has_table};
 ghost use Rattle.dds_table.specs.Places.{name_cmp, IsPlaced, old_place, is_from, stands_at};
 
-use crate::table::Table;
 use dds_base::memory::Memory;
 use dds_base::name::LeafName;
+use dds_chains::table::Table;
 use std::collections::BTreeMap;
 
 /// Whether both names are the same.

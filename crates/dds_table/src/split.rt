@@ -5,7 +5,7 @@ ghost use Rattle.std.specs.FinMap.{get, len as size};
 ghost use Rattle.dds_base.specs.Outside.{Rose};
 ghost use Rattle.dds_disk.specs.Pages.{Pages};
 ghost use Rattle.dds_groups.specs.Names.{low_half, high_half};
-ghost use Rattle.dds_table.specs.Answers.{IsNoPage};
+ghost use Rattle.dds_chains.specs.Answers.{IsNoPage};
 ghost use Rattle.dds_table.specs.Lawful.{IsRefused};
 ghost use Rattle.dds_table.specs.Store.{names, has_table, maps_of, map_named, without_table, Holds};
 ghost use Rattle.dds_table.specs.Split.{covered, halves_of, put_covered, moved, IsTurn, HasRoom, IsParted};

@@ -5,23 +5,24 @@ ghost use Rattle.std.specs.FinMap.{empty, get, insert, remove as without, contai
 ghost use Rattle.dds_base.specs.Name.{Name, covers, overlaps, same_name};
 ghost use Rattle.dds_base.specs.Outside.{Rose};
 ghost use Rattle.dds_disk.specs.Pages.{Pages};
-ghost use Rattle.dds_table.specs.Answers.{IsNoPage};
-ghost use Rattle.dds_table.specs.Part.{IsPart};
+ghost use Rattle.dds_chains.specs.Answers.{IsNoPage};
+ghost use Rattle.dds_chains.specs.Part.{IsPart};
 ghost use Rattle.dds_table.specs.Split.{KeysAreOf};
 ghost use Rattle.dds_table.specs.Store.{StoreState, named, names, place_named, has_table, maps_of, map_named, with_map, without_table, without_slots, Holds};
+ghost use Rattle.dds_chains.specs.Lawful.{WherePage};
 ghost use Rattle.dds_table.specs.Lawful.{IsRefused, knows};
 
-use crate::change::{bind, unbind};
 use crate::fault::TableFault;
-use crate::pairs::{create, get};
-use crate::part::{Part, read_part};
 use crate::places::{find, forget, note, place_in};
-use crate::removal::reclaim;
-use crate::space::Space;
-use crate::table::Table;
 use dds_base::memory::Memory;
 use dds_base::name::LeafName;
 use dds_base::value::Value;
+use dds_chains::change::{bind, unbind};
+use dds_chains::pairs::{create, get};
+use dds_chains::part::{Part, read_part};
+use dds_chains::removal::reclaim;
+use dds_chains::space::Space;
+use dds_chains::table::Table;
 use dds_disk::disk::Disk;
 use std::alloc::Global;
 use std::collections::BTreeMap;
@@ -224,7 +225,8 @@ impl<D: Disk> Store<D> {
         ensures ok { OnOk result (self.new.failed ≡ false) }
         ensures err { OnErr result (self.new.failed ≡ true) }
         ensures lawful { (a : Pages) → D.pages self.old.cache.disk ≡ Some a → IfErr result IsNoPage }
-        ensures refused { IfErr result (IsRefused self.new.cache.kept self.new.slots) }
+        ensures refused { IfErr result (IsRefused self.new.cache.kept self.old.slots) }
+        ensures stays { IfErr result (WherePage (self.new.slots ≡ self.old.slots)) }
         ensures known { IfOk result (λ was. was ≡ knows self.old.tables self.old.slots name key) }
         ensures keys { OnOk result ((q : ℕ) → knows self.new.tables self.new.slots name q ≡ (key == q || knows self.old.tables self.old.slots name q)) }
         ensures untold { D.pages self.old.cache.disk ≡ None → D.pages self.new.cache.disk ≡ None }
@@ -253,7 +255,8 @@ impl<D: Disk> Store<D> {
         ensures ok { OnOk result (self.new.failed ≡ false) }
         ensures err { OnErr result (self.new.failed ≡ true) }
         ensures lawful { (a : Pages) → D.pages self.old.cache.disk ≡ Some a → IfErr result IsNoPage }
-        ensures refused { IfErr result (IsRefused self.new.cache.kept self.new.slots) }
+        ensures refused { IfErr result (IsRefused self.new.cache.kept self.old.slots) }
+        ensures stays { IfErr result (WherePage (self.new.slots ≡ self.old.slots)) }
         ensures known { IfOk result (λ was. was ≡ knows self.old.tables self.old.slots name key) }
         ensures keys { OnOk result ((q : ℕ) → knows self.new.tables self.new.slots name q ≡ (not (key == q) && knows self.old.tables self.old.slots name q)) }
         ensures untold { D.pages self.old.cache.disk ≡ None → D.pages self.new.cache.disk ≡ None }

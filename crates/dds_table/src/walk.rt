@@ -1,25 +1,26 @@
 //! The walk through the pages of a table of version 1, which another disk has.
 
-ghost use Rattle.std.specs.Prelude.{◌≡◌, ℕ, ◌≤◌, ◌<◌, ◌+◌, ◌==◌, ◌∷◌, [], Some, None, true, false, Ok, length, slice_index, IfOk, IfErr, OnOk, IsErrOf};
-ghost use Rattle.std.specs.List.{list_any};
+ghost use Rattle.std.specs.Prelude.{◌≡◌, ℕ, ◌≤◌, ◌<◌, ◌+◌, Some, None, true, false, Ok, length, slice_index, IfOk, IfErr, OnOk, IsErrOf};
 ghost use Rattle.dds_base.specs.Outside.{Rose};
 ghost use Rattle.dds_disk.specs.Pages.{Pages, page_at};
 ghost use Rattle.dds_pages.specs.Bucket.{IsHere, AreHere};
-ghost use Rattle.dds_table.specs.Old.{here_value, is_fresh, add_all, start_of, left, bucket_turn, page_turn, turn, counted, IsOldRead, IsAdded, IsTurn, IsCounted, IsWalk, IsUnread, NoStore, AreCovered};
+ghost use Rattle.dds_table.specs.Old.{here_value, add_all, start_of, left, bucket_turn, page_turn, turn, counted, IsOldRead, IsAdded, IsTurn, IsCounted, IsWalk, IsUnread, NoStore, AreCovered};
 ghost use Rattle.dds_pages.specs.Said.{old_root_in, old_bucket_in};
+ghost use Rattle.dds_table.specs.Met.{AreKeysOf, IsMetBy};
 
 use crate::fault::LiftFault;
+use crate::met::{Met, add, is_fresh, only, was_seen};
 use dds_base::items::Items;
 use dds_base::memory::Memory;
 use dds_base::name::LeafName;
 use dds_base::pair::{Pair, PairList};
-use dds_base::place::bucket;
 use dds_base::value::Value;
 use dds_disk::disk::{Disk, DiskError};
 use dds_pages::bucket::{Held, PagePair};
 use dds_pages::fault::{NO_PAGE, PageFault};
 use dds_pages::old::{OldBucketPage, OldRootPage};
 use std::alloc::Global;
+use std::collections::BTreeSet;
 
 /// Where a walk is: the bucket, the next page of its chain, the pages that were read, and the pairs on them.
 #[derive(Drop)]
@@ -110,43 +111,33 @@ fn value_of(held: &Held) -> Result<Value, Memory>
     }
 }
 
-fn has_key(pairs: &[Pair], key: u64) -> bool
-    ensures { result ≡ list_any (λ pair. pair.key == key) pairs.now }
-{
-    pairs.iter().any(|pair| pair.key == key)
-}
-
-/// Whether a key may stand behind these pairs: it is the bucket's, the name covers it, and it wasn't read before.
-fn is_fresh(at: u8, name: LeafName, pairs: &[Pair], key: u64) -> bool
-    ensures { result ≡ is_fresh at name pairs.now key }
-{
-    bucket(key) == at && name.covers(key) && !has_key(pairs, key)
-}
-
 /// Adds the pairs of a page of a bucket; `false` where a key may not stand there.
-fn add_all(at: u8, name: LeafName, pairs: &mut PairList, more: &[PagePair]) -> Result<bool, Memory>
+fn add_all(
+    at: u8,
+    name: LeafName,
+    pairs: &mut PairList,
+    keys: &mut BTreeSet<u64>,
+    more: &[PagePair],
+) -> Result<bool, Memory>
     requires here { AreHere more.now }
     requires covered { AreCovered name pairs.old }
+    requires keys { AreKeysOf keys.old pairs.old }
     ensures value { IfOk result (λ added. IsAdded (add_all at name pairs.old more.now) added pairs.new) }
     ensures covered { AreCovered name pairs.new }
+    ensures keys { OnOk result (AreKeysOf keys.new pairs.new) }
 {
     'adding: for pair in more {
-        if !is_fresh(at, name, pairs.as_slice(), pair.key) {
+        if !is_fresh(at, name, keys, pair.key) {
             return Ok(false);
         }
         let value = value_of(&pair.held)?;
+        add(keys, pair.key)?;
         pairs.push(Pair {
             key: pair.key,
             value,
         })?;
     }
     Ok(true)
-}
-
-fn was_seen(seen: &[u64], page: u64) -> bool
-    ensures { result ≡ list_any (λ other. other == page) seen.now }
-{
-    seen.iter().any(|other| *other == page)
 }
 
 /// Goes on to the next bucket; `false` where there is none.
@@ -164,18 +155,32 @@ fn next_bucket(root: &OldRootPage, walk: &mut Walk) -> bool
 }
 
 /// Takes the pairs of a page that was read.
-fn take_page(name: LeafName, walk: &mut Walk, bucket: &OldBucketPage) -> Result<bool, LiftFault>
-    requires { AreCovered name walk.old.pairs }
+fn take_page(
+    name: LeafName,
+    walk: &mut Walk,
+    met: &mut Met,
+    bucket: &OldBucketPage,
+) -> Result<bool, LiftFault>
+    requires covered { AreCovered name walk.old.pairs }
+    requires met { IsMetBy walk.old met.old }
     ensures value { IsTurn (page_turn name walk.old (Some bucket.now)) walk.old walk.new result }
     ensures covered { AreCovered name walk.new.pairs }
+    ensures met { OnOk result (IsMetBy walk.new met.new) }
     ensures fewer { IfOk result (λ _. left walk.new < left walk.old) }
     ensures disk { ¬ (IsErrOf result LiftFault.Old) }
 {
     let page = walk.page;
     let _seen = walk.seen.len();
-    if !add_all(walk.bucket, name, &mut walk.pairs, bucket.pairs())? {
+    if !add_all(
+        walk.bucket,
+        name,
+        &mut walk.pairs,
+        &mut met.keys,
+        bucket.pairs(),
+    )? {
         return Err(LiftFault::Page { page });
     }
+    add(&mut met.pages, page)?;
     walk.seen.push(page)?;
     walk.page = bucket.next();
     Ok(true)
@@ -188,11 +193,14 @@ fn turn<E: Disk>(
     name: LeafName,
     root: &OldRootPage,
     walk: &mut Walk,
+    met: &mut Met,
 ) -> Result<bool, LiftFault>
-    requires { AreCovered name walk.old.pairs }
+    requires covered { AreCovered name walk.old.pairs }
+    requires met { IsMetBy walk.old met.old }
     ensures same { E.pages old.new ≡ E.pages old.old }
     ensures told { (p : Pages) → E.pages old.old ≡ Some p → IsTurn (turn p name root.now.firsts walk.old) walk.old walk.new result }
     ensures covered { AreCovered name walk.new.pairs }
+    ensures met { OnOk result (IsMetBy walk.new met.new) }
     ensures fewer { IfOk result (λ on. on ≡ true → left walk.new < left walk.old) }
     ensures store { IfErr result NoStore }
     ensures rose { IsErrOf result LiftFault.Old → Rose (E.faults old.old) (E.faults old.new) }
@@ -202,11 +210,11 @@ fn turn<E: Disk>(
     if walk.page == NO_PAGE {
         return Ok(next_bucket(root, walk));
     }
-    if was_seen(walk.seen.as_slice(), walk.page) {
+    if was_seen(&met.pages, walk.page) {
         return Err(LiftFault::Page { page: walk.page });
     }
     match read_bucket(alloc, old, walk.page) {
-        Ok(bucket) => take_page(name, walk, &bucket),
+        Ok(bucket) => take_page(name, walk, met, &bucket),
         Err(fault) => Err(fault),
     }
 }
@@ -259,8 +267,9 @@ pub(crate) fn read_all<E: Disk>(
         Err(fault) => return Err(fault),
     };
     let mut walk = start(alloc, page, &root)?;
+    let mut met = only(alloc, page)?;
     'walking: loop {
-        match turn(alloc, old, name, &root, &mut walk) {
+        match turn(alloc, old, name, &root, &mut walk, &mut met) {
             Ok(true) => {}
             Ok(false) => return finish(page, &root, walk.pairs),
             Err(fault) => return Err(fault),

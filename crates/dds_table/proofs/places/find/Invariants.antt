@@ -1,6 +1,6 @@
 use Rattle.std.proofs.Common.{◌≡◌, drop}
 use Rattle.dds_table.specs.Store.{place_named, named}
-use Rattle.dds_table.proofs.Slots.{shifted}
+use Rattle.dds_chains.proofs.Slots.{shifted}
 use Rattle.dds_table.proofs.places.find.Given as goal
 
 abbrev pub invariant-loop-place : goal.invariant-loop-place

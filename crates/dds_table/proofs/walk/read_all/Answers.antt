@@ -7,6 +7,7 @@ walking-preserved g c = record {
   same = c.turn.ensures.same ∙ c.walking.invariant.same;
   steady = c.in-Ok-true.ensures.steady ∙ c.walking.invariant.steady;
   covered = c.turn.ensures.covered;
+  met = c.in-Ok-true.ensures.met;
   ends = λ p is. ends-more p c.args.name c.in-Ok.root.firsts _ c.walking.walk c.turn.new.walk c.in-Ok-true.field-0 c.in-Ok-true.field-0-test (c.walking.invariant.ends p is) (c.in-Ok-true.ensures.told p (c.walking.invariant.same ∙ is));
 }
 

@@ -1,7 +1,7 @@
 use Rattle.std.specs.Prelude.{vec_capacity}
 use Rattle.dds_table.specs.Store.{IsStore, named}
 use Rattle.dds_table.specs.Places.{IsPlaced}
-use Rattle.dds_table.specs.declared.table.Table.{Table}
+use Rattle.dds_chains.specs.declared.table.Table.{Table}
 use Rattle.std.proofs.Common.{List, [], ◌∷◌, ◌++◌, sym, arith, length, subst, ◌≡◌, Some, ap, ◌∙◌}
 use Rattle.dds_table.proofs.Stores.{unless-false, store-reclaimed, store-made, holds-made, names-more}
 use Rattle.dds_table.proofs.TablePlaces.{placed-more}

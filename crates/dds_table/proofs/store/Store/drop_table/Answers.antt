@@ -1,7 +1,7 @@
 use Rattle.std.specs.Prelude.{vec_capacity}
 use Rattle.std.proofs.Common.{List, ◌≡◌, Some, length, sym, ap, ◌∙◌, subst, arith}
 use Rattle.dds_table.specs.Store.{named, slots_of, place_named}
-use Rattle.dds_table.specs.declared.table.Table.{Table}
+use Rattle.dds_chains.specs.declared.table.Table.{Table}
 use Rattle.dds_table.proofs.Stores.{unless, unless-false, store-dropped, named-less, name-at}
 use Rattle.dds_table.proofs.Refusing.{slots-less}
 use Rattle.dds_table.specs.Places.{IsPlaced}

@@ -1,8 +1,8 @@
 use Rattle.std.proofs.Common.{List, ◌≡◌, Some, length, sym, ap, ◌∙◌, arith}
 use Rattle.std.specs.FinMap.{get}
-use Rattle.dds_table.specs.Content.{Map}
+use Rattle.dds_chains.specs.Content.{Map}
 use Rattle.dds_table.specs.Store.{named, place_named, maps_of, map_named}
-use Rattle.dds_table.specs.declared.table.Table.{Table}
+use Rattle.dds_chains.specs.declared.table.Table.{Table}
 use Rattle.dds_table.proofs.Stores.{unless-false, index-at, table-at, map-at}
 use Rattle.dds_table.proofs.Refusing.{refused-at}
 use Rattle.dds_table.proofs.Knowing.{knows-at}

@@ -1,7 +1,7 @@
 use Rattle.std.proofs.Common.{None, List, length, sym, ap, ◌∙◌}
 use Rattle.std.specs.FinMap.{get}
 use Rattle.dds_table.specs.Store.{Named, maps_of, map_named}
-use Rattle.dds_table.proofs.Adding.{then-ok}
+use Rattle.dds_chains.proofs.Adding.{then-ok}
 use Rattle.dds_table.proofs.Turns.{first-bound, nothing-moved, pair-moved, no-length, some-length}
 use Rattle.dds_table.proofs.store.Store.move_first.Goals as goal
 

@@ -1,6 +1,7 @@
 use Rattle.std.proofs.lemmas.Result.{err_from_is_err_and}
 use Rattle.std.specs.FinMap.{remove}
 use Rattle.dds_table.specs.Store.{maps_of, map_named, with_map}
+use Rattle.dds_table.proofs.Refusing.{refused-stays}
 use Rattle.dds_table.proofs.Stores.{told-back}
 use Rattle.dds_table.proofs.Turns.{room-low, room-high, held-covered}
 use Rattle.dds_table.proofs.store.Store.move_pair.Goals as goal
@@ -30,3 +31,8 @@ returns-clause-lawful g c = λ a is.
     let h = c.in_ok-remove.ensures.told a is in
     let k = c.in_ok-put_covered.ensures.told h.pages h.is_told in
     c.put_covered-2.ensures.lawful k.pages k.is_told
+
+pub returns-in_err-remove-clause-refused : goal.returns-in_err-remove-clause-refused
+returns-in_err-remove-clause-refused g c =
+    let p = err_from_is_err_and c.from_residual.result c.from_residual.ensures.1 in
+    rw (p.1, p.2) (refused-stays _ _ _ _ c.in_err-remove.ensures.stays c.in_err-remove.ensures.refused)

@@ -3,12 +3,12 @@ use Rattle.std.proofs.Common.{refl, List, ◌≡◌, ◌<◌, Some, false, IsTru
 use Rattle.std.specs.FinMap.{insert, contains_key, len as size}
 use Rattle.dds_disk.specs.Pages.{Pages}
 use Rattle.dds_base.specs.Name.{Name, covers}
-use Rattle.dds_table.specs.Content.{Map}
+use Rattle.dds_chains.specs.Content.{Map}
 use Rattle.dds_table.specs.Store.{named, place_named, maps_of, map_named}
-use Rattle.dds_table.specs.declared.table.Table.{Table}
+use Rattle.dds_chains.specs.declared.table.Table.{Table}
 use Rattle.dds_table.proofs.Stores.{named-set, unless-false, store-reclaimed, index-at, table-at, name-at, uses-at, map-at, changed-named, room-named, store-after, holds-after}
 use Rattle.dds_table.proofs.TablePlaces.{placed-kept}
-use Rattle.dds_table.proofs.Refusing.{refused-set}
+use Rattle.dds_table.proofs.Refusing.{refused-at, slots-stay}
 use Rattle.std.proofs.Common.{◌==◌, ◌||◌, Bool}
 use Rattle.dds_table.proofs.Knowing.{knows-at, knows-set}
 use Rattle.dds_table.proofs.store.Store.put.Goals as goal
@@ -96,7 +96,12 @@ returns-clause-tables g c =
 pub returns-in-Err-clause-refused : goal.returns-in-Err-clause-refused
 returns-in-Err-clause-refused g c =
     let l = ap length c.as_slice.ensures.value in
-    refused-set _ c.self.inside.tables.items c.place_in-place.result c.bind.new.table c.in-Err.fault (omega (arith, l, c.place_in-place.ensures.within)) c.in-Err.ensures.refused
+    rw (← c.self.view_is) (refused-at _ c.self.inside.tables.items c.place_in-place.result c.index_mut.result.now c.in-Err.fault (omega (arith, l, c.place_in-place.ensures.within)) c.index_mut.ensures.value c.in-Err.ensures.refused)
+
+pub returns-in-Err-clause-stays : goal.returns-in-Err-clause-stays
+returns-in-Err-clause-stays g c =
+    let l = ap length c.as_slice.ensures.value in
+    rw (← c.self.view_is) (slots-stay c.self.inside.tables.items c.place_in-place.result c.index_mut.result.now c.bind.new.table c.in-Err.fault (omega (arith, l, c.place_in-place.ensures.within)) c.index_mut.ensures.value c.in-Err.ensures.stays)
 
 pub returns-clause-known : goal.returns-clause-known
 returns-clause-known g c =

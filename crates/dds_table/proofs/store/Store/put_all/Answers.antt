@@ -6,6 +6,7 @@ use Rattle.dds_table.specs.Store.{Holds, maps_of, with_map}
 use Rattle.dds_table.specs.Lift.{map_of}
 use Rattle.dds_table.proofs.Stores.{told-back}
 use Rattle.dds_table.proofs.OldPages.{covered-at}
+use Rattle.dds_table.proofs.Refusing.{refused-stays}
 use Rattle.dds_table.proofs.Lifts.{lift-start, lift-room, lift-next}
 use Rattle.dds_table.proofs.store.Store.put_all.Goals as goal
 
@@ -32,6 +33,11 @@ returns-in_err-put-clause-lawful g c = λ a is.
     let m = c.putting.invariant.holds a is in
     let p = err_from_is_err_and c.from_residual.result c.from_residual.ensures.1 in
     rw (p.1, p.2) (c.in_err-put.ensures.lawful m.pages m.is_told)
+
+pub returns-in_err-put-clause-refused : goal.returns-in_err-put-clause-refused
+returns-in_err-put-clause-refused g c =
+    let p = err_from_is_err_and c.from_residual.result c.from_residual.ensures.1 in
+    rw (p.1, p.2) (refused-stays _ _ _ _ c.in_err-put.ensures.stays c.in_err-put.ensures.refused)
 
 pub putting-preserved : goal.putting-preserved
 putting-preserved g c = record {

@@ -1,11 +1,11 @@
 use Rattle.std.proofs.Common.{refl, List, ◌≡◌, ◌<◌, Some, length, sym, ap, ◌∙◌, arith}
 use Rattle.std.specs.FinMap.{remove as without, contains_key}
-use Rattle.dds_table.specs.Content.{Map}
+use Rattle.dds_chains.specs.Content.{Map}
 use Rattle.dds_table.specs.Store.{named, place_named, maps_of, map_named}
-use Rattle.dds_table.specs.declared.table.Table.{Table}
+use Rattle.dds_chains.specs.declared.table.Table.{Table}
 use Rattle.dds_table.proofs.Stores.{named-set, unless-false, index-at, table-at, uses-at, map-at, changed-named, store-after, holds-after}
 use Rattle.dds_table.proofs.TablePlaces.{placed-kept}
-use Rattle.dds_table.proofs.Refusing.{refused-set}
+use Rattle.dds_table.proofs.Refusing.{refused-at, slots-stay}
 use Rattle.std.proofs.Common.{◌==◌, ◌&&◌, not, Bool}
 use Rattle.dds_table.proofs.Knowing.{knows-at, knows-set}
 use Rattle.dds_table.proofs.store.Store.remove.Goals as goal
@@ -72,7 +72,12 @@ returns-clause-tables g c =
 pub returns-in-Err-clause-refused : goal.returns-in-Err-clause-refused
 returns-in-Err-clause-refused g c =
     let l = ap length c.as_slice.ensures.value in
-    refused-set _ c.self.inside.tables.items c.place_in-place.result c.unbind.new.table c.in-Err.fault (omega (arith, l, c.place_in-place.ensures.within)) c.in-Err.ensures.refused
+    rw (← c.self.view_is) (refused-at _ c.self.inside.tables.items c.place_in-place.result c.index_mut.result.now c.in-Err.fault (omega (arith, l, c.place_in-place.ensures.within)) c.index_mut.ensures.value c.in-Err.ensures.refused)
+
+pub returns-in-Err-clause-stays : goal.returns-in-Err-clause-stays
+returns-in-Err-clause-stays g c =
+    let l = ap length c.as_slice.ensures.value in
+    rw (← c.self.view_is) (slots-stay c.self.inside.tables.items c.place_in-place.result c.index_mut.result.now c.unbind.new.table c.in-Err.fault (omega (arith, l, c.place_in-place.ensures.within)) c.index_mut.ensures.value c.in-Err.ensures.stays)
 
 pub returns-clause-known : goal.returns-clause-known
 returns-clause-known g c =

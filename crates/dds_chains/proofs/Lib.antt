@@ -1,0 +1,15 @@
+pub mod Uses
+pub mod Chains
+pub mod Contents
+pub mod Reading
+pub mod Writing
+pub mod Fetching
+pub mod Slots
+pub mod Roots
+pub mod Adding
+pub mod Removing
+pub mod Releasing
+pub mod Changing
+pub mod Parts
+pub mod Refusing
+pub mod Knowing

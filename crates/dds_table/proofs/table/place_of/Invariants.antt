@@ -1,7 +1,0 @@
-use Rattle.std.proofs.Common.{◌≡◌, drop}
-use Rattle.dds_table.specs.Index.{place_of}
-use Rattle.dds_table.proofs.Slots.{shifted}
-use Rattle.dds_table.proofs.table.place_of.Given as goal
-
-abbrev pub invariant-loop-place : goal.invariant-loop-place
-invariant-loop-place l = place_of l.slots l.key ≡ shifted l.place (place_of (drop l.place l.slots) l.key)
