@@ -1,6 +1,6 @@
 //! The pairs of a table: reading, adding and taking out one of them.
 
-ghost use Rattle.std.specs.Prelude.{◌≡◌, ◌==◌, ◌||◌, is_some, true, ℕ, ◌+◌, ◌-◌, ◌<◌, ◌≤◌, ◌^◌, ◌∷◌, [], Some, None, option_copied, IsTrue, false, length, get_or, map, IfOk, IfErr, OnOk, OnErr, IsErrOf};
+ghost use Rattle.std.specs.Prelude.{◌≡◌, ◌==◌, ◌||◌, is_some, true, ℕ, ◌+◌, ◌-◌, ◌<◌, ◌≤◌, ◌^◌, ◌∷◌, [], Some, None, option_copied, IsTrue, false, length, get_or, map, replicate, IfOk, IfErr, OnOk, OnErr, IsErrOf};
 ghost use Rattle.std.specs.FinMap.{empty, get, insert, remove, contains_key};
 ghost use Rattle.dds_base.specs.Name.{covers};
 ghost use Rattle.dds_base.specs.Outside.{Rose};
@@ -160,6 +160,8 @@ pub fn create<D: Disk>(space: &mut Space<D>, name: LeafName) -> Result<Table, Ta
     requires { (n : ℕ) → vacant n space.old.free.items space.old.fresh ≤ 1 }
     ensures index { IfOk result (λ table. IsIndex table) }
     ensures name { IfOk result (λ table. table.name ≡ name) }
+    ensures len { IfOk result (λ table. table.len ≡ 0) }
+    ensures buckets { IfOk result (λ table. table.buckets.items ≡ replicate 256 []) }
     ensures number { IfOk result (λ table. (n : ℕ) → vacant n space.new.free.items space.new.fresh + table_uses n table ≡ vacant n space.old.free.items space.old.fresh) }
     ensures told { (a : Pages) → D.pages space.old.cache.disk ≡ Some a → IfOk result (λ table. Made a space.old.free.items space.old.fresh (D.pages space.new.cache.disk) table) }
     ensures lawful { IfErr result IsNoPage }

@@ -32,8 +32,9 @@ pub struct Space<D: Disk> {
 }
 
 impl<D: Disk> Space<D> {
+    /// A space of which no page is used, with a cache of 64 pages that holds none. Makes no call of the disk.
     pub fn new(alloc: Global, disk: D) -> Result<Space<D>, Memory>
-        ensures disk { IfOk result (λ space. space.cache.disk ≡ disk) }
+        ensures cache { IfOk result (λ space. space.cache ≡ record { disk = disk; kept = []; capacity = 64 }) }
         ensures free { IfOk result (λ space. space.free.items ≡ []) }
         ensures fresh { IfOk result (λ space. space.fresh ≡ 0) }
     {
