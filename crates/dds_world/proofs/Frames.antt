@@ -1,8 +1,8 @@
 -- What a frame's bytes spell is the letter that it was made of.
-use Rattle.std.proofs.Common.{◌≡◌, ◌≤◌, ℕ, List, Ok, take, length, refl, sym, ap, ◌∙◌, subst, arith}
+use Rattle.std.proofs.Common.{◌≡◌, ℕ, List, length, sym, ap, subst, arith}
 use Rattle.std.proofs.Math.Seq.{take-length}
 use Rattle.dds_letters.specs.declared.letter.Letter.{Letter}
-use Rattle.dds_frames.specs.Frame.{decoded, Spells}
+use Rattle.dds_frames.specs.Frame.{Spells}
 use Rattle.dds_frames.proofs.ExactFrames.{decoded_only}
 use Rattle.dds_world.specs.declared.step.Message.{Message}
 use Rattle.dds_world.specs.Framed.{letter_read, letter_of}

@@ -1,5 +1,5 @@
 -- The cluster before its first step, and its outboxes and links.
-use Rattle.std.specs.Prelude.{ℕ, ◌+◌, ◌-◌, ◌%◌, ◌==◌, ◌&&◌, ◌||◌, Bool, true, false, not, List, [], ◌∷◌, ◌++◌, Option, Some, None, length, filter, nat_lt, nat_le, replicate, slice_get, slice_index_or, slice_set, if◌then◌else◌, zero, suc, refl}
+use Rattle.std.specs.Prelude.{ℕ, ◌+◌, ◌-◌, ◌==◌, Bool, true, false, List, [], ◌∷◌, ◌++◌, Option, None, length, filter, nat_lt, replicate, slice_get, slice_index_or, slice_set, if◌then◌else◌, zero, suc, refl}
 use Rattle.std.specs.FinMap.{empty}
 use Rattle.std.specs.Coded.{Coded, code_by, coded×, coded_ℕ, coded_list}
 use Rattle.dds_base.specs.BrickList.{has}

@@ -13,3 +13,4 @@ pub mod runs;
 pub mod step;
 pub mod stopping;
 pub mod trace;
+pub mod turn;

@@ -55,13 +55,6 @@ impl Links {
         }
     }
 
-    /// How many nodes there are.
-    pub fn len(&self) -> usize
-        ensures { result ≡ length self.now }
-    {
-        self.queues.len()
-    }
-
     /// The first message for a place, which stays.
     pub fn first(&self, place: usize) -> Option<&Framed>
         ensures { option_copied result ≡ slice_get (slice_index_or self.now place []) 0 }

@@ -4,10 +4,9 @@ ghost use Rattle.std.specs.Prelude.{◌≡◌, ◌++◌, ◌&&◌, not, slice_ge
 ghost use Rattle.dds_base.specs.Op.{is_get};
 ghost use Rattle.dds_world.specs.Trace.{all_closed, asked_by, asked_in, closed_by, all_kept, is_applied, kept, next, opened_by, opened_in, opens, closes, replies_in, told_at, told_by};
 
-use crate::cluster::Happened;
 use crate::possible::is_possible;
 use crate::step::{Input, Step};
-use crate::trace::{Asked, Caller, Made, Told, Trace};
+use crate::trace::{Asked, Caller, Happened, Made, Told, Trace};
 use dds_base::items::Items;
 use dds_base::memory::Memory;
 use dds_base::number::{CallNo, CallerNo, TxnNo};

@@ -1,10 +1,14 @@
 //! What is kept of a run.
 
+ghost use Rattle.std.specs.Prelude.{◌≡◌, []};
+
 use crate::cluster::Cluster;
 use dds_base::items::Items;
 use dds_base::number::{CallNo, CallerNo, NodeNo, TxnNo};
 use dds_base::op::{Op, Reply};
 use dds_history::entry::Entry;
+use dds_states::turn::ReplyList;
+use std::alloc::Global;
 
 /// A caller: its library, its open call, if there is one, and the least number that its next call may have.
 #[derive(Clone, Copy, PartialEq, Eq, Debug)]
@@ -51,4 +55,23 @@ pub struct Trace {
     pub asked: Items<Asked>,
     pub made: Items<Made>,
     pub told: Items<Told>,
+}
+
+/// What a step gives besides the cluster after it: its points, and its answers.
+#[derive(Drop)]
+pub struct Happened {
+    pub made: Items<Made>,
+    pub replies: ReplyList,
+}
+
+impl Happened {
+    pub(crate) fn nothing(alloc: Global) -> Happened
+        ensures made { result.made ≡ [] }
+        ensures replies { result.replies ≡ [] }
+    {
+        Happened {
+            made: Items::new(alloc),
+            replies: ReplyList::new(alloc),
+        }
+    }
 }

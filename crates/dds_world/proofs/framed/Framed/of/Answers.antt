@@ -1,4 +1,3 @@
-use Rattle.std.proofs.Common.{◌≡◌}
 use Rattle.dds_world.proofs.Frames.{letter-is, spells-own, same-message}
 use Rattle.dds_world.proofs.framed.Framed.of.Goals as goal
 

@@ -1,6 +1,6 @@
 use Rattle.std.proofs.Common.{◌≡◌, ◌+◌, ◌++◌, length}
 use Rattle.dds_world.specs.World.{numbered}
-use Rattle.dds_world.proofs.cluster.append.Given as goal
+use Rattle.dds_world.proofs.turn.append.Given as goal
 
 abbrev pub invariant-loop-to : goal.invariant-loop-to
 invariant-loop-to l =
