@@ -3,9 +3,9 @@
 use dds_base::number::{CallNo, CallerNo, NodeNo};
 use dds_base::op::Reply;
 use dds_ends::command::BYTES;
-use dds_transcript::line_text::line_text;
 use dds_script::opening::Script;
 use dds_script::read_script::read_script;
+use dds_transcript::line_text::line_text;
 use dds_transcript::report_line::ReportLine;
 use dds_walk::reports::plain_steps;
 use dds_world::runs::{calls, history, is_run};

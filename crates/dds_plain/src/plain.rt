@@ -11,8 +11,8 @@ use dds_ends::command::{BYTES, LINES, is_step, write_transcript};
 use dds_ends::end::End;
 use dds_script::opening::Script;
 use dds_script::read_script::read_script;
-use dds_transcript::report_line::ReportLine;
 use dds_script::script_error::ScriptError;
+use dds_transcript::report_line::ReportLine;
 use dds_walk::reports::{plain_steps, report};
 use std::alloc::Global;
 
