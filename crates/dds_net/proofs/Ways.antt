@@ -84,31 +84,27 @@ beyond [] i d h = refl
 beyond (x ∷ xs) zero d h = absurd (omega (arith, h))
 beyond (x ∷ xs) (suc i) d h = beyond xs i d (omega (arith, h))
 
--- a link is that of two nodes, or empty
-pub data LinkIs (z : Sizes) (w : World) (from to : ℕ) : Type 0 where
-  no_link : link w from to ≡ [] → LinkIs z w from to
-  some_link : (a b : ℕ) (more : List Message) → channel_at z w a b ≡ letters_of (link w from to ++ more) → LinkIs z w from to
+-- what a link holds: the front of what is on its way between two nodes, or nothing
+pub data LinkIs (z : Sizes) (w : World) (ms : List Message) : Type 0 where
+  no_link : ms ≡ [] → LinkIs z w ms
+  some_link : (a b : ℕ) → is_in z b ≡ true → (more : List Message) → channel_at z w a b ≡ letters_of (ms ++ more) → LinkIs z w ms
 
-link-if : (z : Sizes) (w : World) (p q : ℕ) → z.bricks ≤ 64 → IsSized z.bricks z.libraries w → (p < z.bricks + z.libraries) ⊎ (z.bricks + z.libraries ≤ p) → (q < z.bricks + z.libraries) ⊎ (z.bricks + z.libraries ≤ q) → (lane w p q ≡ []) ⊎ ((a : ℕ) × (b : ℕ) × (more : List Message) × (channel_at z w a b ≡ letters_of (lane w p q ++ more)))
-link-if z w p q few g (inr far) k = let s = g.links in inl (ap (λ row. slice_index_or row q []) (beyond w.links p [] (omega (arith, s, far))))
+link-if : (z : Sizes) (w : World) (p q : ℕ) → z.bricks ≤ 64 → IsSized z.bricks z.libraries w → (p < z.bricks + z.libraries) ⊎ (z.bricks + z.libraries ≤ p) → (q < z.bricks + z.libraries) ⊎ (z.bricks + z.libraries ≤ q) → LinkIs z w (lane w p q)
+link-if z w p q few g (inr far) k = let s = g.links in no_link (ap (λ row. slice_index_or row q []) (beyond w.links p [] (omega (arith, s, far))))
 link-if z w p q few g (inl h) (inr far) =
     let s = g.links in
     let r = row-length (z.bricks + z.libraries) w.links p g.rows (omega (arith, s, h)) in
-    inl (beyond (slice_index_or w.links p []) q [] (omega (arith, r, far)))
+    no_link (beyond (slice_index_or w.links p []) q [] (omega (arith, r, far)))
 link-if z w p q few g (inl h) (inl k) =
     let a = node-at z p few h in
     let b = node-at z q few k in
-    let e : channel_at z w a.node b.node ≡ letters_of (lane w p q ++ sent z.bricks q (box w p)) =
-    channel-is z w a.node b.node a.inside b.inside
+    some_link a.node b.node b.inside (sent z.bricks q (box w p))
+    (channel-is z w a.node b.node a.inside b.inside
     ∙ ap (λ i. letters_of (channel w z.bricks i (place_in z.bricks b.node))) a.place
-    ∙ ap (λ j. letters_of (channel w z.bricks p j)) b.place in
-    inr (a.node, b.node, sent z.bricks q (box w p), e)
+    ∙ ap (λ j. letters_of (channel w z.bricks p j)) b.place)
 
-pub link-is : (z : Sizes) (w : World) (from to : ℕ) → z.bricks ≤ 64 → IsSized z.bricks z.libraries w → LinkIs z w from to
-link-is z w from to few g = elim (link-if z w (place w from) (place w to) few g (cases_lt (place w from) (z.bricks + z.libraries)) (cases_lt (place w to) (z.bricks + z.libraries))) [
-  | inl e ↦ no_link e
-  | inr e ↦ some_link e.0 e.1 e.2 e.3
-]
+pub link-is : (z : Sizes) (w : World) (from to : ℕ) → z.bricks ≤ 64 → IsSized z.bricks z.libraries w → LinkIs z w (link w from to)
+link-is z w from to few g = link-if z w (place w from) (place w to) few g (cases_lt (place w from) (z.bricks + z.libraries)) (cases_lt (place w to) (z.bricks + z.libraries))
 
 -- the link of two nodes
 front-empty : (xs ys : List Message) → letters_of (xs ++ ys) ≡ [] → xs ≡ []
