@@ -16,5 +16,4 @@ pub mod Ways
 pub mod Letters
 pub mod OneWay
 pub mod PairTakes
-pub mod CallTurns
 pub mod BrickFolds
