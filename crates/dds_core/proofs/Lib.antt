@@ -1,0 +1,4 @@
+pub mod Lists
+pub mod CallDoes
+pub mod CallTurns
+pub mod LibraryAttempts
