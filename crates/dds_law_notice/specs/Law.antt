@@ -1,11 +1,11 @@
--- The first of the facts of reached worlds.
-use Rattle.std.specs.Prelude.{◌≡◌, true, List}
+-- Where notices are, in each world of each run.
+use Rattle.std.specs.Prelude.{ℕ, ◌≡◌, true, List, take}
 use Rattle.dds_script.specs.Opening.{OpeningOf, ranges_of}
 use Rattle.dds_script.specs.Ranges.{IsRanges}
 use Rattle.dds_world.specs.Reached.{NoticeIsLast}
 use Rattle.dds_world.specs.Trace.{is_run}
 use Rattle.dds_world.specs.declared.step.Step.{Step}
 
--- of each run of each opening whose numbers of nodes are in range
+-- of each beginning of each run of each opening whose numbers of nodes are in range
 abbrev pub NoticesAreLast : Type 0
-NoticesAreLast = (o : OpeningOf) (journal : List Step) → IsRanges (ranges_of o) → is_run o journal ≡ true → NoticeIsLast o journal
+NoticesAreLast = (o : OpeningOf) (journal : List Step) → IsRanges (ranges_of o) → is_run o journal ≡ true → (at : ℕ) → NoticeIsLast o (take at journal)

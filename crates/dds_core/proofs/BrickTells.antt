@@ -1,0 +1,109 @@
+use Rattle.std.proofs.Common.{◌≡◌, ℕ, ◌++◌, Bool, true, false, Option, Some, None, List, [], ◌∷◌, refl}
+use Rattle.std.specs.FinMap.{get}
+use Rattle.std.specs.Prelude.{if◌then◌else◌}
+use Rattle.dds_base.specs.BrickList.{has}
+use Rattle.dds_base.specs.Name.{Name}
+use Rattle.dds_base.specs.Number.{Txn, StampOf}
+use Rattle.dds_base.specs.declared.leaf.Leaf.{Leaf}
+use Rattle.dds_base.specs.declared.number.NodeNo.{NodeNo}
+use Rattle.dds_base.specs.declared.pending.Pending.{Pending}
+use Rattle.dds_base.specs.declared.pending.TxnStatus.{TxnStatus}
+use Rattle.dds_brick_rows.specs.Calls as calls
+use Rattle.dds_brick_rows.specs.Refusal.{get_refusal, update_denial}
+use Rattle.dds_brick_rows.specs.Resolution as resolution
+use Rattle.dds_brick_rows.specs.Take as takes
+use Rattle.dds_letters.specs.declared.letter.Letter.TheVariants as letter
+use Rattle.dds_letters.specs.declared.refusal.Answer.TheVariants as answer
+use Rattle.dds_letters.specs.declared.refusal.Ballot.TheVariants as ballot
+use Rattle.dds_letters.specs.declared.refusal.Denial.{Denial}
+use Rattle.dds_letters.specs.declared.refusal.Refusal.{Refusal}
+use Rattle.dds_locks.specs.First.{without_first}
+use Rattle.dds_states.specs.Turn.{sends, unknown_others}
+use Rattle.dds_states.specs.declared.brick_state.BrickState.{BrickState}
+use Rattle.dds_states.specs.declared.brick_state.Question.{Question}
+use Rattle.dds_states.specs.declared.brick_state.Resolving.{Resolving}
+use Rattle.dds_core.proofs.Tells.{Given, Sent, Tells, sent-each, tells-from, tells-if, tells-sends, tells-still, tells-then, who}
+
+-- The rows of a brick for calls, for leaves that it is told, and to resolve transactions.
+
+module _ {L : Sent} {M : Given} where
+  got : (s : BrickState) (from : NodeNo) (txn : Txn) (key : ℕ) (r : Option Refusal) → L from (letter.Got txn (calls.answer_of (get s.pairs key))) → ((why : Refusal) → r ≡ Some why → L from (letter.Got txn (answer.Refused why))) → Tells L M s (calls.got s from txn key r)
+  got s from txn key None h k = record { same = refl; letters = (h, tt); replies = tt }
+  got s from txn key (Some r) h k = tells-sends s s _ refl (k r refl, tt)
+
+  pub get_row : (s : BrickState) (from : NodeNo) (txn : Txn) (key : ℕ) (name : Name) (stamp : StampOf) → L from (letter.Got txn (calls.answer_of (get s.pairs key))) → ((why : Refusal) → get_refusal s key name stamp ≡ Some why → L from (letter.Got txn (answer.Refused why))) → Tells L M s (calls.get_row s from txn key name stamp)
+  get_row s from txn key name stamp h k = got s from txn key (get_refusal s key name stamp) h k
+
+  voted : (s : BrickState) (from : NodeNo) (p : Pending) (d : Option Denial) → L from (letter.Vote p.txn ballot.Yes) → ((why : Denial) → d ≡ Some why → L from (letter.Vote p.txn (ballot.No why))) → Tells L M s (calls.voted s from p d)
+  voted s from p None h k = record { same = refl; letters = (h, tt); replies = tt }
+  voted s from p (Some d) h k = tells-sends s s _ refl (k d refl, tt)
+
+  pub prepare_row : (s : BrickState) (from : NodeNo) (p : Pending) (below : ℕ) (name : Name) (stamp : StampOf) → L from (letter.Vote p.txn ballot.Yes) → ((why : Denial) → update_denial s p.op name stamp ≡ Some why → L from (letter.Vote p.txn (ballot.No why))) → Tells L M s (calls.prepare_row s from p below name stamp)
+  prepare_row s from p below name stamp h k = let v = voted (calls.trim s p.txn.library below) from p (update_denial s p.op name stamp) h k in record { same = v.same; letters = v.letters; replies = v.replies }
+
+  applied : (s u : BrickState) (p : Pending) → who u ≡ who s → Tells L M s (calls.applied u p)
+  applied s u p e = record { same = e; letters = tt; replies = tt }
+
+  commit_found : (s u : BrickState) (from : NodeNo) (p : Option Pending) → who u ≡ who s → Tells L M s (calls.commit_found u from p)
+  commit_found s u from None e = tells-still s u e
+  commit_found s u from (Some p) e = tells-then s (calls.applied u p) _ (applied s u p e) (λ v. tells-sends v v ((from, letter.Applied p.txn (calls.flag_at u p)) ∷ []) refl (tt, tt))
+
+  pub commit_row : (s : BrickState) (from : NodeNo) (txn : Txn) → Tells L M s (calls.commit_row s from txn)
+  commit_row s from txn = commit_found s (calls.dropped s txn) from _ refl
+
+  aborting : (s u : BrickState) (from : NodeNo) (txn : Txn) (p : Option Pending) → who u ≡ who s → Tells L M s (sends (calls.aborted u p) ((from, letter.Aborted txn) ∷ []))
+  aborting s u from txn None e = tells-sends s u _ e (tt, tt)
+  aborting s u from txn (Some p) e = record { same = e; letters = (tt, tt); replies = tt }
+
+  pub abort_row : (s : BrickState) (from : NodeNo) (txn : Txn) → Tells L M s (calls.abort_row s from txn)
+  abort_row s from txn = aborting s (calls.dropped s txn) from txn _ refl
+
+  pub map_ask_row : (s : BrickState) (from : NodeNo) (txn : Txn) (key : ℕ) → Tells L M s (calls.map_ask_row s from txn key)
+  map_ask_row s from txn key = tells-sends s s _ refl (tt, tt)
+
+-- a leaf that is taken changes leaves alone
+same-if : (s u : BrickState) (b : Bool) → who u ≡ who s → who (if b then u else s) ≡ who s
+same-if s u true e = e
+same-if s u false e = refl
+
+take-over-same : (s : BrickState) (leaf : Leaf) (own : Option Leaf) → who (takes.take_over s leaf own) ≡ who s
+take-over-same s leaf None = refl
+take-over-same s leaf (Some own) = same-if s _ _ refl
+
+pub take-same : (s : BrickState) (leaf : Leaf) → who (takes.take s leaf) ≡ who s
+take-same s leaf = take-over-same s leaf _
+
+module _ {L : Sent} {M : Given} where
+  pub push_row : (s : BrickState) (leaf : Leaf) → Tells L M s (takes.push_row s leaf)
+  push_row s leaf = tells-still s (takes.take s leaf) (take-same s leaf)
+
+  -- resolving
+  settled : (s u : BrickState) (commit : Bool) (p : Option Pending) → who u ≡ who s → Tells L M s (resolution.settled u commit p)
+  settled s u commit None e = tells-still s u e
+  settled s u true (Some p) e = applied s u p e
+  settled s u false (Some p) e = tells-still s _ e
+
+  pub outcome_row : (s : BrickState) (txn : Txn) (commit : Bool) → Tells L M s (resolution.outcome_row s txn commit)
+  outcome_row s txn commit = settled s (calls.dropped s txn) commit _ refl
+
+  decides : (s : BrickState) (r : Resolving) → Tells L M s (resolution.decides s r)
+  decides s r = tells-then s (resolution.outcome_row s r.txn (resolution.verdict r)) _ (outcome_row s r.txn (resolution.verdict r)) (λ u. tells-sends u u _ refl (sent-each (unknown_others r.list u.number u.known) (letter.Outcome r.txn (resolution.verdict r)) (λ n. tt)))
+
+  pub resolves_on : (s : BrickState) (r : Resolving) → Tells L M s (resolution.resolves_on s r)
+  resolves_on s r = tells-if _ (decides s r) (tells-still s _ refl)
+
+  pub resolve : (s : BrickState) (txn : Txn) (list : List ℕ) → Tells L M s (resolution.resolve s txn list)
+  resolve s txn list = tells-then s _ _ (tells-sends s s _ refl (sent-each (unknown_others list s.number s.known) (letter.Query txn list) (λ n. tt))) (λ u. resolves_on u (resolution.started s txn list))
+
+  pub help_row : (s : BrickState) (from : NodeNo) (txn : Txn) (list : List ℕ) → Tells L M s (resolution.help_row s from txn list)
+  help_row s from txn list = tells-if _ (tells-if _ (tells-still s s refl) (resolve s txn list)) (tells-still s _ refl)
+
+  pub query_row : (s : BrickState) (from : NodeNo) (txn : Txn) (list : List ℕ) → Tells L M s (resolution.query_row s from txn list)
+  query_row s from txn list = tells-if _ (tells-sends s s _ refl (tt, tt)) (tells-still s _ refl)
+
+  status_heard : (s : BrickState) (from : NodeNo) (txn : Txn) (st : TxnStatus) (r : Option Resolving) → Tells L M s (resolution.status_heard s from txn st r)
+  status_heard s from txn st None = tells-still s s refl
+  status_heard s from txn st (Some r) = tells-from s (record s { resolving = without_first (resolution.is_of txn) s.resolving }) _ refl (resolves_on (record s { resolving = without_first (resolution.is_of txn) s.resolving }) (resolution.unwaited (resolution.heard r st) from))
+
+  pub status_row : (s : BrickState) (from : NodeNo) (txn : Txn) (st : TxnStatus) → Tells L M s (resolution.status_row s from txn st)
+  status_row s from txn st = status_heard s from txn st _
