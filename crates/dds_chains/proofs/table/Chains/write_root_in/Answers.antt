@@ -2,7 +2,7 @@ use Rattle.std.proofs.Common.{map, ◌∙◌, arith, ap}
 use Rattle.std.proofs.lemmas.List.{length-map}
 use Rattle.dds_chains.specs.Index.{first_page}
 use Rattle.dds_chains.proofs.Roots.{root-room, root-next, root-done}
-use Rattle.dds_chains.proofs.table.Table.write_root_in.Goals as goal
+use Rattle.dds_chains.proofs.table.Chains.write_root_in.Goals as goal
 
 pub put_8-requires : goal.put_8-requires
 put_8-requires c = root-room c.buckets.writer c.args.self.now.len (map first_page c.args.self.now.buckets.items) c.buckets.bucket c.buckets.invariant c.buckets-test.true
