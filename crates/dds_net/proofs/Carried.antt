@@ -7,8 +7,8 @@ use Rattle.dds_core.specs.LibraryTurn.{live_library_turn}
 use Rattle.dds_core.proofs.Lists.{all-append, all-front}
 use Rattle.dds_letters.specs.declared.letter.Letter.{Letter}
 use Rattle.dds_letters.specs.declared.letter.Letter.TheVariants as letter
-use Rattle.dds_world.specs.World.{emptied}
-use Rattle.dds_world.specs.declared.trace.Caller.{Caller}
+use Rattle.dds_cluster.specs.World.{emptied}
+use Rattle.dds_cluster.specs.declared.trace.Caller.{Caller}
 use Rattle.dds_net.proofs.Letters.{rest-all}
 use Rattle.dds_net.proofs.Puts.{at-put, pairs-changed}
 use Rattle.dds_net.specs.Event.{Event, nothing, unheard, unasked, brick_takes, brick_told, brick_stops, library_takes, library_asked, library_stops}

@@ -5,18 +5,18 @@ use Rattle.std.proofs.lemmas.List.{append-nil, append_assoc, length-take-le, tak
 use Rattle.std.proofs.lemmas.Option.{slice_get_within}
 use Rattle.std.specs.Prelude.{slice_get, take, if◌then◌else◌}
 use Rattle.dds_base.specs.declared.number.NodeNo.{NodeNo}
-use Rattle.dds_world.specs.Trace.{has_first, is_possible, is_run, is_run_from, next, replies_in, run_of, start, trace_from}
-use Rattle.dds_world.specs.Turn.{turn}
-use Rattle.dds_world.specs.World.{World, brick_at, is_node, link}
-use Rattle.dds_world.specs.declared.step.Message.{Message}
-use Rattle.dds_world.specs.declared.step.Step.{Step}
-use Rattle.dds_world.specs.declared.step.Step.TheVariants as step
-use Rattle.dds_world.specs.declared.trace.Trace.{Trace}
+use Rattle.dds_cluster.specs.Trace.{has_first, is_possible, is_run, is_run_from, next, replies_in, run_of, start, trace_from}
+use Rattle.dds_cluster.specs.Turn.{turn}
+use Rattle.dds_cluster.specs.World.{World, brick_at, is_node, link}
+use Rattle.dds_cluster.specs.declared.step.Message.{Message}
+use Rattle.dds_cluster.specs.declared.step.Step.{Step}
+use Rattle.dds_cluster.specs.declared.step.Step.TheVariants as step
+use Rattle.dds_cluster.specs.declared.trace.Trace.{Trace}
 use Rattle.dds_letters.specs.declared.letter.Letter.{Letter}
 use Rattle.dds_script.specs.Opening.{OpeningOf}
 use Rattle.dds_states.specs.declared.brick_state.BrickState.{BrickState}
 use Rattle.dds_states.specs.declared.turn.Replied.{Replied}
-use Rattle.dds_world.specs.Causes.{Handles, world_at}
+use Rattle.dds_world.specs.Places.{Handles, world_at}
 use Rattle.dds_net.proofs.Places.{place-is}
 use Rattle.dds_net.proofs.Prefixes.{run-take}
 use Rattle.dds_net.proofs.Runs.{next-is, sized-run}
