@@ -108,15 +108,14 @@ pub fn prepare(
 }
 
 /// Applies a transaction that was pending and notes it Committed.
-pub fn apply(alloc: Global, state: &mut BrickState, pending: &Pending) -> Result<CoreTurn, Memory>
-    ensures state { OnOk result (state.new ≡ (applied state.old pending.now).state) }
-    ensures out { IfOk result (λ turn. turn ≡ (applied state.old pending.now).out) }
+pub fn apply(alloc: Global, state: &mut BrickState, pending: Pending) -> Result<CoreTurn, Memory>
+    ensures state { OnOk result (state.new ≡ (applied state.old pending).state) }
+    ensures out { IfOk result (λ turn. turn ≡ (applied state.old pending).out) }
 {
-    let txn = pending.txn;
     let was = state.pairs.update(pending.op.op())?;
-    state.locks.note(txn, true)?;
+    state.locks.note(pending.txn, true)?;
     let mut turn = CoreTurn::new(alloc);
-    turn.points.push(Point::Applied { txn, was })?;
+    turn.points.push(Point::Applied { pending, was })?;
     Ok(turn)
 }
 
@@ -137,7 +136,7 @@ pub fn commit(
     let was = state.pairs.update(pending.op.op())?;
     state.locks.note(txn, true)?;
     let mut turn = CoreTurn::letter(alloc, from, Letter::Applied { txn, was })?;
-    turn.points.push(Point::Applied { txn, was })?;
+    turn.points.push(Point::Applied { pending, was })?;
     Ok(turn)
 }
 

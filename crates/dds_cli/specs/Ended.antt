@@ -4,9 +4,9 @@ use Rattle.dds_script.specs.Grammar.{AcceptsBy, IsFirstFaultBy}
 use Rattle.dds_script.specs.declared.form.Runs.TheVariants.{FirstPath}
 use Rattle.dds_transcript.specs.Text.{report_text}
 use Rattle.dds_script.specs.Opening.{ScriptOf as Script}
-use Rattle.dds_world.specs.Trace.{is_run, run_of}
+use Rattle.dds_cluster.specs.Trace.{is_run, run_of}
 use Rattle.dds_world.specs.Stands.{Stands}
-use Rattle.dds_world.specs.declared.step.Step.{Step}
+use Rattle.dds_cluster.specs.declared.step.Step.{Step}
 use Rattle.dds_law_commit.specs.Law.{AreCaused}
 use Rattle.dds_walk.specs.Walk.{steps, transcript}
 use Rattle.dds_ends.specs.End.{IsStepCommand, Outside, IsUnread, IsUnwritten, IsReadWhole}

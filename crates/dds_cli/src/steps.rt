@@ -23,7 +23,7 @@ use dds_script::script_error::ScriptError;
 use dds_transcript::report_line::ReportLine;
 use dds_walk::laws::{steps_are_plain, steps_run};
 use dds_walk::reports::{plain_steps, report};
-use dds_world::step::Journal;
+use dds_cluster::step::Journal;
 use std::alloc::Global;
 
 /// Carries out a command. The words are to be the one word `step`; then the source gives a script, which is run, and the

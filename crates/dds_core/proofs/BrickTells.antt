@@ -1,23 +1,21 @@
 use Rattle.std.proofs.Common.{◌≡◌, ℕ, ◌++◌, Bool, true, false, Option, Some, None, List, [], ◌∷◌, refl}
 use Rattle.std.specs.FinMap.{get}
 use Rattle.std.specs.Prelude.{if◌then◌else◌}
-use Rattle.dds_base.specs.BrickList.{has}
 use Rattle.dds_base.specs.Name.{Name}
 use Rattle.dds_base.specs.Number.{Txn, StampOf}
 use Rattle.dds_base.specs.declared.leaf.Leaf.{Leaf}
 use Rattle.dds_base.specs.declared.number.NodeNo.{NodeNo}
 use Rattle.dds_base.specs.declared.pending.Pending.{Pending}
-use Rattle.dds_base.specs.declared.pending.TxnStatus.{TxnStatus}
 use Rattle.dds_brick_rows.specs.Calls as calls
 use Rattle.dds_brick_rows.specs.Refusal.{get_refusal, update_denial}
 use Rattle.dds_brick_rows.specs.Resolution as resolution
 use Rattle.dds_brick_rows.specs.Take as takes
+use Rattle.dds_brick_rows.specs.declared.resolution.News.{News}
 use Rattle.dds_letters.specs.declared.letter.Letter.TheVariants as letter
 use Rattle.dds_letters.specs.declared.refusal.Answer.TheVariants as answer
 use Rattle.dds_letters.specs.declared.refusal.Ballot.TheVariants as ballot
 use Rattle.dds_letters.specs.declared.refusal.Denial.{Denial}
 use Rattle.dds_letters.specs.declared.refusal.Refusal.{Refusal}
-use Rattle.dds_locks.specs.First.{without_first}
 use Rattle.dds_states.specs.Turn.{sends, unknown_others}
 use Rattle.dds_states.specs.declared.brick_state.BrickState.{BrickState}
 use Rattle.dds_states.specs.declared.brick_state.Question.{Question}
@@ -89,7 +87,7 @@ module _ {L : Sent} {M : Given} where
   decides : (s : BrickState) (r : Resolving) → Tells L M s (resolution.decides s r)
   decides s r = tells-then s (resolution.outcome_row s r.txn (resolution.verdict r)) _ (outcome_row s r.txn (resolution.verdict r)) (λ u. tells-sends u u _ refl (sent-each L (unknown_others r.list u.number u.known) (letter.Outcome r.txn (resolution.verdict r)) (λ n. tt)))
 
-  pub resolves_on : (s : BrickState) (r : Resolving) → Tells L M s (resolution.resolves_on s r)
+  resolves_on : (s : BrickState) (r : Resolving) → Tells L M s (resolution.resolves_on s r)
   resolves_on s r = tells-if _ (decides s r) (tells-still s _ refl)
 
   pub resolve : (s : BrickState) (txn : Txn) (list : List ℕ) → Tells L M s (resolution.resolve s txn list)
@@ -101,9 +99,13 @@ module _ {L : Sent} {M : Given} where
   pub query_row : (s : BrickState) (from : NodeNo) (txn : Txn) (list : List ℕ) → Tells L M s (resolution.query_row s from txn list)
   query_row s from txn list = tells-if _ (tells-sends s s _ refl (tt, tt)) (tells-still s _ refl)
 
-  status_heard : (s : BrickState) (from : NodeNo) (txn : Txn) (st : TxnStatus) (r : Option Resolving) → Tells L M s (resolution.status_heard s from txn st r)
-  status_heard s from txn st None = tells-still s s refl
-  status_heard s from txn st (Some r) = tells-from s (record s { resolving = without_first (resolution.is_of txn) s.resolving }) _ refl (resolves_on (record s { resolving = without_first (resolution.is_of txn) s.resolving }) (resolution.unwaited (resolution.heard r st) from))
+  resolving_goes : (s : BrickState) (from : NodeNo) (news : News) (r : Resolving) → Tells L M s (resolution.resolving_goes s from news r)
+  resolving_goes s from news r = tells-if _ (resolves_on s (resolution.with_news r from news)) (tells-still s _ refl)
 
-  pub status_row : (s : BrickState) (from : NodeNo) (txn : Txn) (st : TxnStatus) → Tells L M s (resolution.status_row s from txn st)
-  status_row s from txn st = status_heard s from txn st _
+  resolvings_go : (s : BrickState) (from : NodeNo) (news : News) (rs : List Resolving) → Tells L M s (resolution.resolvings_go s from news rs)
+  resolvings_go s from news [] = tells-still s s refl
+  resolvings_go s from news (r ∷ rs) = tells-then s _ _ (resolving_goes s from news r) (λ u. resolvings_go u from news rs)
+
+  -- what a member tells, at each resolving that waits for it
+  pub all_hear : (s : BrickState) (from : NodeNo) (news : News) → Tells L M s (resolution.all_hear s from news)
+  all_hear s from news = tells-from s (record s { resolving = [] }) _ refl (resolvings_go (record s { resolving = [] }) from news s.resolving)

@@ -12,7 +12,7 @@ use Rattle.dds_base.specs.declared.op.Op.{Op}
 use Rattle.dds_base.specs.declared.op.OrderReply.TheVariants as answered
 use Rattle.dds_brick_rows.specs.Calls.{answer_of}
 use Rattle.dds_brick_rows.specs.Refusal.{get_refusal, update_denial}
-use Rattle.dds_brick_rows.specs.Resolution as resolution
+use Rattle.dds_brick_rows.specs.declared.resolution.News.TheVariants as news
 use Rattle.dds_core.specs.Brick.{live_brick_turn}
 use Rattle.dds_core.specs.Notice as notices
 use Rattle.dds_letters.specs.declared.letter.Letter.{Letter}
@@ -32,7 +32,6 @@ use Rattle.dds_states.specs.declared.brick_state.OrderPhase.{OrderPhase}
 use Rattle.dds_states.specs.declared.brick_state.OrderPhase.TheVariants.{Leasing, Copying, Installing}
 use Rattle.dds_states.specs.declared.brick_state.Question.{Question}
 use Rattle.dds_states.specs.declared.brick_state.Question.TheVariants.{Help, Query}
-use Rattle.dds_states.specs.declared.brick_state.Resolving.{Resolving}
 use Rattle.dds_core.proofs.BrickTells as rows
 use Rattle.dds_core.proofs.OrderTells as orders
 use Rattle.dds_core.proofs.OrderTells.{lease_denial}
@@ -52,16 +51,6 @@ module _ {L : Sent} {M : Given} where
 
   order_part : (s : BrickState) (y : NodeNo) → Tells L M s (notices.order_part s y)
   order_part s y = tells-if _ (orders.with_order s _ s.order (λ t o e. order_goes t o y o.phase)) (tells-still s s refl)
-
-  resolving_goes : (s : BrickState) (y : NodeNo) (r : Resolving) → Tells L M s (notices.resolving_goes s y r)
-  resolving_goes s y r = tells-if _ (rows.resolves_on s (resolution.unwaited r y)) (tells-still s _ refl)
-
-  resolvings_go : (s : BrickState) (y : NodeNo) (rs : List Resolving) → Tells L M s (notices.resolvings_go s y rs)
-  resolvings_go s y [] = tells-still s s refl
-  resolvings_go s y (r ∷ rs) = tells-then s _ _ (resolving_goes s y r) (λ u. resolvings_go u y rs)
-
-  resolving_part : (s : BrickState) (y : NodeNo) → Tells L M s (notices.resolving_part s y)
-  resolving_part s y = tells-from s (record s { resolving = [] }) _ refl (resolvings_go (record s { resolving = [] }) y s.resolving)
 
   asked_again : (s : BrickState) (d : Deferred) (q : Question) → Tells L M s (notices.asked_again s d q)
   asked_again s d Help = rows.help_row s d.from d.txn d.list
@@ -91,7 +80,7 @@ module _ {L : Sent} {M : Given} where
   notice_row : (s : BrickState) (y : NodeNo) → Tells L M (notices.learns s y) (notices.notice_row s y)
   notice_row s y =
       let l = notices.learns s y in
-      let first = tells-then l _ (λ t. notices.resolving_part t y) (order_part l y) (λ u. resolving_part u y) in
+      let first = tells-then l _ (λ t. notices.resolving_part t y) (order_part l y) (λ u. rows.all_hear u y news.Stopped) in
       let second = tells-then l _ notices.deferred_part first (λ u. deferred_part u) in
       tells-then l _ (λ t. notices.pending_part t y) second (λ u. pending_part u y)
 
@@ -137,7 +126,7 @@ letter-tells s from (letter.Push leaf) = rows.push_row s leaf
 letter-tells s from (letter.MapAsk txn caller call key) = rows.map_ask_row s from txn key
 letter-tells s from (letter.Help txn list) = rows.help_row s from txn list
 letter-tells s from (letter.Query txn list) = rows.query_row s from txn list
-letter-tells s from (letter.Status txn status) = rows.status_row s from txn status
+letter-tells s from (letter.Status txn status) = rows.all_hear s from (news.Told txn status)
 letter-tells s from (letter.Outcome txn commit) = rows.outcome_row s txn commit
 letter-tells s from (letter.Lease number what) = orders.lease_row s from number what (λ why e. lease_refused number what why refl refl refl e)
 letter-tells s from (letter.Granted number leaf) = orders.granted_row s from number leaf

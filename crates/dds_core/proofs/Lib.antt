@@ -1,7 +1,8 @@
 pub mod Lists
+pub mod CallDoes
+pub mod CallTurns
+pub mod LibraryAttempts
 pub mod Tells
 pub mod BrickTells
 pub mod OrderTells
 pub mod LetterTells
-pub mod CallTurns
-pub mod CallDoes

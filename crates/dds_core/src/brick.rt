@@ -19,8 +19,12 @@ use dds_states::brick_state::BrickState;
 use dds_states::turn::CoreTurn;
 use std::alloc::Global;
 
-/// What a letter does at a brick: nothing at a stopped one. After `Memory` nothing is said of the state. Where a step
-/// would need a number above 2^64 - 1, or a leaf that can't be made, it answers `Memory` too; no run comes there.
+/// What a letter does at a brick: nothing at a stopped one. After `Memory` nothing is said of the state.
+///
+/// It answers `Memory` too, and not for want of memory, where an order would take a number above 2^64 - 1, where a leaf
+/// would be made by a number or an epoch above it, of no members, or as half of a name of full depth, where a split's
+/// leaf of depth 0 would be served or taken, where a taken or installed leaf is neither of the own leaf's name nor a half
+/// of it, and where the pairs of a copy don't rise. By reading, no run comes there; that isn't proved.
 pub fn brick_turn(
     alloc: Global,
     state: &mut BrickState,
@@ -107,7 +111,11 @@ fn live_brick_turn(
         Letter::Install { order, leaf } => install(alloc, state, from, *order, leaf),
         Letter::Installed { order, name: _ } => installed(alloc, state, from, *order),
         Letter::Notice => notice(alloc, state, from),
-        _ => Ok(CoreTurn::new(alloc)),
+        Letter::Got { .. }
+        | Letter::Vote { .. }
+        | Letter::Applied { .. }
+        | Letter::Aborted { .. }
+        | Letter::MapTell { .. } => Ok(CoreTurn::new(alloc)),
     }
 }
 

@@ -18,7 +18,7 @@ use dds_letters::letter::Letter;
 use dds_letters::outbox::Outbox;
 use dds_maps::maps::Maps;
 use dds_states::library_state::{Desk, LibraryState, OpenCall, Request, TxnNumbers, Went};
-use dds_states::turn::{CoreTurn, PointList, Replied, ReplyList};
+use dds_states::turn::{CoreTurn, PointList, Replied, ReplyList, read_of};
 use std::alloc::Global;
 
 /// The least attempt number of open calls, 2^64 - 1 where there are none.
@@ -50,7 +50,7 @@ fn run(
         Letter::Aborted { txn: _ } => aborted(alloc, desk, call, from),
         Letter::MapTell { txn: _, leaf } => told(alloc, desk, call, from, leaf),
         Letter::Notice => notice(alloc, desk, call, from),
-        _ => Ok(unchanged(alloc, desk, call)),
+        Letter::Get { .. } | Letter::Prepare { .. } | Letter::Commit { .. } | Letter::Abort { .. } | Letter::Push { .. } | Letter::MapAsk { .. } | Letter::Help { .. } | Letter::Query { .. } | Letter::Status { .. } | Letter::Outcome { .. } | Letter::Lease { .. } | Letter::Granted { .. } | Letter::LeaseRefused { .. } | Letter::Release { .. } | Letter::CopyAsk { .. } | Letter::CopyPart { .. } | Letter::Install { .. } | Letter::Installed { .. } => Ok(unchanged(alloc, desk, call)),
     }
 }
 
@@ -72,7 +72,7 @@ fn give(
         None => Ok(turn),
         Some(reply) => {
             turn.replies.push(Replied::Call {
-                txn,
+                read: read_of(txn, &reply),
                 caller,
                 call,
                 reply,
@@ -208,7 +208,7 @@ fn attempt_of(letter: &Letter) -> Option<TxnNo>
         Letter::Applied { txn, was: _ } => Some(*txn),
         Letter::Aborted { txn } => Some(*txn),
         Letter::MapTell { txn, leaf: _ } => Some(*txn),
-        _ => None,
+        Letter::Get { .. } | Letter::Prepare { .. } | Letter::Commit { .. } | Letter::Abort { .. } | Letter::Push { .. } | Letter::MapAsk { .. } | Letter::Help { .. } | Letter::Query { .. } | Letter::Status { .. } | Letter::Outcome { .. } | Letter::Lease { .. } | Letter::Granted { .. } | Letter::LeaseRefused { .. } | Letter::Release { .. } | Letter::CopyAsk { .. } | Letter::CopyPart { .. } | Letter::Install { .. } | Letter::Installed { .. } | Letter::Notice => None,
     }
 }
 
@@ -285,7 +285,8 @@ fn notice_turn(alloc: Global, state: &mut LibraryState, node: NodeNo) -> Result<
 }
 
 /// What a letter does at a library: nothing at a stopped one. After `Memory` nothing is said of the state. Where a step
-/// would need a number above 2^64 - 1 it answers `Memory` too; no run comes there.
+/// would need an attempt number above 2^64 - 1, or where an attempt begins and the library's number is a brick's or its
+/// group is empty, it answers `Memory` too. By reading, no run comes there; that isn't proved.
 pub fn library_turn(
     alloc: Global,
     state: &mut LibraryState,
@@ -298,13 +299,13 @@ pub fn library_turn(
     if state.stopped {
         return Ok(CoreTurn::new(alloc));
     }
-    match letter {
-        Letter::Notice => notice_turn(alloc, state, from),
-        _ => at_attempt(alloc, state, from, letter),
+    if let Letter::Notice = letter {
+        return notice_turn(alloc, state, from);
     }
+    at_attempt(alloc, state, from, letter)
 }
 
-/// Opens a call and begins it. At a stopped library nothing is done.
+/// Opens a call and begins it. At a stopped library nothing is done. It answers `Memory` where `library_turn` does.
 pub fn library_input(
     alloc: Global,
     state: &mut LibraryState,

@@ -5,7 +5,7 @@ ghost use Rattle.dds_states.specs.declared.brick_state.OrderPhase.TheVariants.{L
 ghost use Rattle.dds_base.specs.BrickList.{has};
 ghost use Rattle.dds_base.specs.NodeSet.{has_node};
 ghost use Rattle.dds_brick_rows.specs.Resolution.{before, is_resolved};
-ghost use Rattle.dds_core.specs.Notice.{learns, is_lost, concerns_in, concerns, concerns_some, copies_again, order_goes, order_part, resolving_goes, resolvings_go, resolving_part, asked_again, asked_all_again, deferred_part, helped_by, pending_goes, numbered, pendings_go, pending_part, notice_row};
+ghost use Rattle.dds_core.specs.Notice.{learns, is_lost, concerns_in, concerns, concerns_some, copies_again, order_goes, order_part, resolving_part, asked_again, asked_all_again, deferred_part, helped_by, pending_goes, numbered, pendings_go, pending_part, notice_row};
 
 use dds_base::brick_list::BrickList;
 use dds_base::items::Items;
@@ -14,12 +14,12 @@ use dds_base::memory::Memory;
 use dds_base::number::{NodeNo, TxnNo};
 use dds_base::op::OrderReply;
 use dds_base::pending::Pending;
-use dds_brick_rows::resolution::{help, is_resolved, query, resolve, resolve_on, unwait};
+use dds_brick_rows::resolution::{hear_all, help, is_resolved, query, resolve, News};
 use dds_letters::letter::Letter;
 use dds_order_rows::finishing::end;
 use dds_order_rows::going_on::{copy, install_on, lease_on};
 use dds_states::brick_state::{
-    BrickState, Deferred, OpenOrder, OrderPhase, Question, Resolving, Task,
+    BrickState, Deferred, OpenOrder, OrderPhase, Question, Task,
 };
 use dds_states::nodes::{has, members, unknown_members, without};
 use dds_states::turn::CoreTurn;
@@ -139,48 +139,12 @@ fn order_part(alloc: Global, state: &mut BrickState, node: NodeNo) -> Result<Cor
     order_on(alloc, state, order, node)
 }
 
-/// One resolving, which isn't in the state's list, goes on without the node.
-fn resolving_on(
-    alloc: Global,
-    state: &mut BrickState,
-    node: NodeNo,
-    resolving: Resolving,
-) -> Result<CoreTurn, Memory>
-    ensures state { OnOk result (state.new ≡ (resolving_goes state.old node resolving).state) }
-    ensures out { IfOk result (λ turn. turn ≡ (resolving_goes state.old node resolving).out) }
-{
-    if !has(resolving.waiting.as_slice(), node) {
-        state.resolving.push(resolving)?;
-        return Ok(CoreTurn::new(alloc));
-    }
-    let resolving = unwait(alloc, resolving, node)?;
-    resolve_on(alloc, state, resolving)
-}
-
-fn resolvings_on(
-    alloc: Global,
-    state: &mut BrickState,
-    node: NodeNo,
-    resolvings: Items<Resolving>,
-) -> Result<CoreTurn, Memory>
-    ensures state { OnOk result (state.new ≡ (resolvings_go state.old node resolvings).state) }
-    ensures out { IfOk result (λ turn. turn ≡ (resolvings_go state.old node resolvings).out) }
-{
-    let mut turn = CoreTurn::new(alloc);
-    for resolving in resolvings.into_vec() {
-        let next = resolving_on(alloc, state, node, resolving)?;
-        turn = turn.with(next)?;
-    }
-    Ok(turn)
-}
-
 /// Each resolving goes on without the node.
 fn resolving_part(alloc: Global, state: &mut BrickState, node: NodeNo) -> Result<CoreTurn, Memory>
     ensures state { OnOk result (state.new ≡ (resolving_part state.old node).state) }
     ensures out { IfOk result (λ turn. turn ≡ (resolving_part state.old node).out) }
 {
-    let resolvings = std::mem::replace(&mut state.resolving, Items::new(alloc));
-    resolvings_on(alloc, state, node, resolvings)
+    hear_all(alloc, state, node, &News::Stopped)
 }
 
 /// A deferred letter is handled, and deferred again where it isn't ready.

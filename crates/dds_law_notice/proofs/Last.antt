@@ -8,16 +8,17 @@ use Rattle.dds_letters.specs.declared.letter.Letter.{Letter}
 use Rattle.dds_letters.specs.declared.letter.Letter.TheVariants as letter
 use Rattle.dds_script.specs.Opening.{OpeningOf, ranges_of}
 use Rattle.dds_script.specs.Ranges.{IsRanges}
-use Rattle.dds_world.specs.Reached.{HasStopped, Knows, NoticeIsLast}
-use Rattle.dds_world.specs.Trace.{is_run, run_of, start}
-use Rattle.dds_world.specs.World.{World, link}
-use Rattle.dds_world.specs.declared.step.Message.{Message}
-use Rattle.dds_world.specs.declared.step.Step.{Step}
+use Rattle.dds_world.specs.Notices.{Knows, NoticeIsLast}
+use Rattle.dds_world.specs.Places.{HasStopped}
+use Rattle.dds_cluster.specs.Trace.{is_run, run_of, start}
+use Rattle.dds_cluster.specs.World.{World, link}
+use Rattle.dds_cluster.specs.declared.step.Message.{Message}
+use Rattle.dds_cluster.specs.declared.step.Step.{Step}
 use Rattle.dds_net.proofs.Opening.{IsNew, no_node, new_a_brick, new_a_library, start-channel, start-node}
 use Rattle.dds_net.proofs.Places.{is-in}
 use Rattle.dds_net.proofs.Prefixes.{run-take}
 use Rattle.dds_net.proofs.Runs.{net-built, run-keeps}
-use Rattle.dds_net.proofs.Sizes.{IsSized, sized-start}
+use Rattle.dds_cluster.proofs.Sizes.{IsSized, sized-start}
 use Rattle.dds_net.proofs.Steps.{brick-in, brick-node, library-in, library-node}
 use Rattle.dds_net.proofs.Ways.{LinkIs, NodeIs, is_brick, is_library, is_nowhere, link-is, no_link, node-is, nothing-on, some_link, travels}
 use Rattle.dds_net.specs.Net.{Node, nowhere, Sizes, channel_at, is_in, letters_of, net, node_at, sizes_of}

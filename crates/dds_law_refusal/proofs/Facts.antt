@@ -1,74 +1,80 @@
-use Rattle.std.proofs.Common.{◌≡◌, ℕ, Some, List, sym, ap, ◌∙◌, subst}
+use Rattle.std.proofs.Common.{◌≡◌, ℕ, ◌≤◌, true, Some, List, [], ◌∷◌, ◌++◌, drop, length, refl, sym, ap, ◌∙◌, subst}
+use Rattle.std.specs.List.{AllByRecursion}
+use Rattle.std.specs.Prelude.{slice_get, take}
 use Rattle.dds_base.specs.declared.number.NodeNo.{NodeNo}
+use Rattle.dds_base.specs.declared.op.Met.{Met}
+use Rattle.dds_base.specs.declared.op.OrderReply.TheVariants as answered
+use Rattle.dds_core.proofs.LibraryAttempts.{IsOpen}
+use Rattle.dds_core.proofs.Lists.{all-is}
 use Rattle.dds_letters.specs.declared.letter.Letter.{Letter}
 use Rattle.dds_letters.specs.declared.letter.Letter.TheVariants as letter
 use Rattle.dds_letters.specs.declared.refusal.Answer.TheVariants as answer
 use Rattle.dds_letters.specs.declared.refusal.Ballot.TheVariants as ballot
-use Rattle.dds_letters.specs.declared.refusal.Refusal.{Refusal}
 use Rattle.dds_script.specs.Opening.{OpeningOf}
 use Rattle.dds_states.specs.declared.library_state.LibraryState.{LibraryState}
 use Rattle.dds_states.specs.declared.library_state.OpenCall.{OpenCall}
 use Rattle.dds_states.specs.declared.library_state.Phase.{Phase}
 use Rattle.dds_states.specs.declared.library_state.Phase.TheVariants as phase
-use Rattle.std.specs.Prelude.{slice_get}
-use Rattle.dds_world.specs.Reached.{Travels}
-use Rattle.dds_world.specs.Refusals.{LeaseWasRefused, RefusalsWereTrue}
-use Rattle.dds_world.specs.Trace.{run_of}
-use Rattle.dds_world.specs.World.{library_at, place}
-use Rattle.dds_world.specs.declared.step.Message.{Message}
-use Rattle.dds_world.specs.declared.step.Step.{Step}
-use Rattle.dds_law_notice.proofs.Channels.{channel, node_of, place_in}
-use Rattle.dds_law_notice.proofs.Facts.{travels-in}
-use Rattle.dds_law_notice.proofs.Taken.{node-at-place, place-below}
-use Rattle.dds_law_refusal.proofs.CallRows.{CallOk, PhaseOk}
-use Rattle.dds_law_refusal.proofs.Good.{IsGood, OnItsWay}
-use Rattle.dds_law_refusal.proofs.LibraryRows.{CallFine}
-use Rattle.dds_law_refusal.proofs.Lists.{all-at}
-use Rattle.dds_law_refusal.proofs.Meanings.{Fact, meaning}
-use Rattle.dds_law_refusal.proofs.Runs.{IsKept}
+use Rattle.dds_states.specs.declared.turn.Replied.TheVariants as replied
+use Rattle.dds_world.specs.Places.{Travels}
+use Rattle.dds_world.specs.Refusals.{OrderWasRefused, RefusalsWereTrue}
+use Rattle.dds_cluster.specs.Trace.{is_run, replies_in, run_of}
+use Rattle.dds_cluster.specs.World.{library_at}
+use Rattle.dds_cluster.specs.declared.step.Step.{Step}
+use Rattle.dds_net.proofs.Journals.{Grown, journal-keeps, net_of, next-event, place-of}
+use Rattle.dds_net.proofs.Opening.{IsNew, new_a_brick, new_a_library, no_node, start-channel, start-node}
+use Rattle.dds_net.proofs.Runs.{sized-run}
+use Rattle.dds_net.proofs.Steps.{library-node}
+use Rattle.dds_net.proofs.Ways.{travels}
+use Rattle.dds_net.specs.Net.{Node, a_library, sizes_of}
+use Rattle.dds_law_refusal.proofs.Bricks.{ReplyOk}
+use Rattle.dds_law_refusal.proofs.Good.{CallOk, IsGood, LetterOk, NodeOk, PhaseOk}
+use Rattle.dds_law_refusal.proofs.Later.{order-later}
+use Rattle.dds_law_refusal.proofs.Steps.{done, good-kept}
 
--- What the invariant says of refusals.
+-- The invariant holds along each run, and what it says of refusals.
 
--- a letter that travels is on its way from its node to its place
-pub record OnWay (o : OpeningOf) (journal : List Step) (from to : NodeNo) (l : Letter) : Type 0 where
-  pub message : Message
-  pub letter : message.letter ≡ l
-  pub place : node_of o.bricks (place_in o.bricks message.to) ≡ to
-  pub fact : Fact o.bricks o journal (run_of o journal).world from message.to l
+new-ok : (o : OpeningOf) (k : ℕ) (x : Node) → IsNew o k x → NodeOk o [] k x
+new-ok o k x (no_node e) = subst (NodeOk o [] k) (sym e) tt
+new-ok o k x (new_a_brick e) = subst (NodeOk o [] k) (sym e) refl
+new-ok o k x (new_a_library high e) = subst (NodeOk o [] k) (sym e) (high, tt)
 
-on-way : (o : OpeningOf) (journal : List Step) (from to : NodeNo) (l : Letter) → IsGood o journal (run_of o journal).world → Travels (run_of o journal).world from to l → OnWay o journal from to l
-on-way o journal from to l g t =
-    let b = o.bricks in
-    let w = (run_of o journal).world in
-    let z = g.linked.sized in
-    let i = place w from in
-    let j = place w to in
-    let there = travels-in b o.libraries w from to l z t in
-    let way : OnItsWay o journal w i j t.message = all-at (OnItsWay o journal w i j) (channel w b i j) there.at t.message there.is (g.carried i j (place-below b o.libraries w from z t.sender) (place-below b o.libraries w to z t.receiver)) in
+start-good : (o : OpeningOf) → IsGood o [] (net_of o [])
+start-good o =
     record {
-      message = t.message;
-      letter = t.letter;
-      place = ap (node_of b) way.0 ∙ node-at-place b o.libraries w to z t.receiver;
-      fact = subst (Fact b o journal w from t.message.to) t.letter (subst (λ k. Fact b o journal w k t.message.to t.message.letter) (node-at-place b o.libraries w from z t.sender) way.1);
+      nodes = λ k. new-ok o k _ (start-node o k);
+      letters = λ a b. subst (AllByRecursion (LetterOk o [] (net_of o []) a b)) (sym (start-channel o a b)) tt;
     }
 
-lease-fact : (o : OpeningOf) (journal : List Step) (from to : NodeNo) (number : ℕ) (why : Refusal) → OnWay o journal from to (letter.LeaseRefused number why) → LeaseWasRefused o journal from to number why
-lease-fact o journal from to number why h = subst (λ k. LeaseWasRefused o journal from k number why) (sym h.fact.0 ∙ h.place) h.fact.1
+run-good : (o : OpeningOf) (journal : List Step) → o.bricks ≤ 64 → is_run o journal ≡ true → IsGood o journal (net_of o journal)
+run-good o journal few r = journal-keeps o (IsGood o) journal few (good-kept o few) (start-good o) r
 
--- what an open call keeps
-kept-call : (o : OpeningOf) (journal : List Step) (node : NodeNo) (s : LibraryState) (at : ℕ) (c : OpenCall) → IsGood o journal (run_of o journal).world → library_at (run_of o journal).world node ≡ Some s → slice_get s.calls at ≡ Some c → CallOk (meaning o journal) c
-kept-call o journal node s at c g there is = (all-at (CallFine (meaning o journal) s.number s.next) s.calls at c is (g.libraries node s there).1).kept
+on-way : (o : OpeningOf) (journal : List Step) (from to : NodeNo) (l : Letter) → IsGood o journal (net_of o journal) → Travels (run_of o journal).world from to l → LetterOk o journal (net_of o journal) from to l
+on-way o journal from to l g t = travels (LetterOk o journal (net_of o journal) from to) (sizes_of o) (run_of o journal).world from to l (sized-run o journal) t (g.letters from to)
 
-kept-phase : (o : OpeningOf) (journal : List Step) (node : NodeNo) (s : LibraryState) (at : ℕ) (c : OpenCall) (p : Phase) → IsGood o journal (run_of o journal).world → library_at (run_of o journal).world node ≡ Some s → slice_get s.calls at ≡ Some c → c.phase ≡ p → PhaseOk (meaning o journal) c.txn c.request.caller c.request.call p
-kept-phase o journal node s at c p g there is e = subst (PhaseOk (meaning o journal) c.txn c.request.caller c.request.call) e (kept-call o journal node s at c g there is)
+kept-phase : (o : OpeningOf) (journal : List Step) (node : NodeNo) (s : LibraryState) (at : ℕ) (c : OpenCall) (p : Phase) → IsGood o journal (net_of o journal) → library_at (run_of o journal).world node ≡ Some s → slice_get s.calls at ≡ Some c → c.phase ≡ p → PhaseOk o journal c.txn c.request.caller c.request.call p
+kept-phase o journal node s at c p g there is e =
+    let own : NodeOk o journal node (a_library s) = subst (NodeOk o journal node) (library-node (run_of o journal).world node s there) (g.nodes node) in
+    subst (PhaseOk o journal c.txn c.request.caller c.request.call) e (all-is (IsOpen (CallOk o journal) s.number s.next) s.calls at c own.1 is).kept
 
-pub refusals-true : (o : OpeningOf) (journal : List Step) → IsKept o journal → RefusalsWereTrue o journal
-refusals-true o journal k =
+-- an order that is answered at a place of the run
+order-met : (o : OpeningOf) (journal : List Step) (at place : ℕ) (x : Step) (m : Met) → o.bricks ≤ 64 → is_run o journal ≡ true → slice_get journal at ≡ Some x → slice_get (replies_in (run_of o (take at journal)) x) place ≡ Some (replied.Order (answered.Refused m)) → OrderWasRefused o journal at m
+order-met o journal at place x m few r is told =
+    let front = take at journal in
+    let here = place-of o journal at x r is in
+    let next = next-event o front x few here.possible in
+    let d = done o front x next.0 few (run-good o front few here.run) next.1 in
+    let met = all-is (ReplyOk o (Grown front x) (length front)) _ place (replied.Order (answered.Refused m)) d.replies (ap (λ rs. slice_get rs place) (sym next.1.replies) ∙ told) in
+    subst (λ k. OrderWasRefused o journal k m) here.place (subst (λ steps. OrderWasRefused o steps (length front) m) here.whole (order-later o (Grown front x) _ (length front) m met))
+
+pub refusals-true : (o : OpeningOf) (journal : List Step) → o.bricks ≤ 64 → is_run o journal ≡ true → RefusalsWereTrue o journal
+refusals-true o journal few r =
+    let g = run-good o journal few r in
     record {
-      gets = λ from to txn why t. (on-way o journal from to (letter.Got txn (answer.Refused why)) k.good t).fact.0;
-      updates = λ from to txn why t. (on-way o journal from to (letter.Vote txn (ballot.No why)) k.good t).fact.0;
-      leases = λ from to number why t. lease-fact o journal from to number why (on-way o journal from to (letter.LeaseRefused number why) k.good t);
-      kept = λ node brick s at c waiting why there is e. (kept-phase o journal node s at c (phase.Aborting waiting why brick) k.good there is e).0;
-      asking = λ node s at c waiting newest m there is e. kept-phase o journal node s at c (phase.Asking waiting newest m) k.good there is e;
-      orders = k.orders;
+      gets = λ from to txn why t. (on-way o journal from to (letter.Got txn (answer.Refused why)) g t).0;
+      updates = λ from to txn why t. (on-way o journal from to (letter.Vote txn (ballot.No why)) g t).0;
+      leases = λ from to number why t. on-way o journal from to (letter.LeaseRefused number why) g t;
+      kept = λ node brick s at c waiting why there is e. (kept-phase o journal node s at c (phase.Aborting waiting why brick) g there is e).0;
+      asking = λ node s at c waiting newest m there is e. kept-phase o journal node s at c (phase.Asking waiting newest m) g there is e;
+      orders = λ at place x m is told. order-met o journal at place x m few r is told;
     }

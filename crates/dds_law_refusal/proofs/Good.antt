@@ -1,144 +1,125 @@
-use Rattle.std.proofs.Common.{◌≡◌, ℕ, ◌+◌, ◌-◌, ◌<◌, ◌≤◌, inl, inr, Bool, true, false, Option, Some, None, List, [], ◌∷◌, ◌++◌, length, refl, sym, ap, ◌∙◌, subst, arith}
-use Rattle.std.proofs.Math.Seq.{take-append_seam}
-use Rattle.std.proofs.lemmas.Bool.Decides.{nat_tests}
-use Rattle.std.specs.List.{AllByRecursion}
-use Rattle.std.specs.Prelude.{nat_lt, slice_get, slice_set, if◌then◌else◌}
+use Rattle.std.proofs.Common.{◌≡◌, ℕ, List, ◌++◌, refl, sym}
 use Rattle.dds_base.specs.Number.{Txn}
 use Rattle.dds_base.specs.declared.number.CallNo.{CallNo}
 use Rattle.dds_base.specs.declared.number.NodeNo.{NodeNo}
-use Rattle.dds_base.specs.declared.op.OrderReply.{OrderReply}
-use Rattle.dds_base.specs.declared.op.OrderReply.TheVariants as answered
 use Rattle.dds_letters.specs.declared.letter.Letter.{Letter}
+use Rattle.dds_letters.specs.declared.letter.Letter.TheVariants as letter
+use Rattle.dds_letters.specs.declared.refusal.Answer.{Answer}
+use Rattle.dds_letters.specs.declared.refusal.Answer.TheVariants as answer
+use Rattle.dds_letters.specs.declared.refusal.Ballot.{Ballot}
+use Rattle.dds_letters.specs.declared.refusal.Ballot.TheVariants as ballot
+use Rattle.dds_letters.specs.declared.refusal.Denial.{Denial}
 use Rattle.dds_script.specs.Opening.{OpeningOf}
-use Rattle.dds_states.specs.Turn.{BrickTurn, LibraryTurn}
-use Rattle.dds_states.specs.declared.brick_state.BrickState.{BrickState}
 use Rattle.dds_states.specs.declared.library_state.LibraryState.{LibraryState}
-use Rattle.dds_states.specs.declared.turn.Replied.{Replied}
-use Rattle.dds_states.specs.declared.turn.Replied.TheVariants as replied
-use Rattle.dds_world.specs.Causes.{world_at}
-use Rattle.dds_world.specs.Refusals.{OrderWasRefused}
-use Rattle.dds_world.specs.Trace.{run_of}
-use Rattle.dds_world.specs.Turn.{brick_does, library_does}
-use Rattle.dds_world.specs.World.{World, brick_at, library_at, numbered}
-use Rattle.dds_world.specs.declared.step.Message.{Message}
-use Rattle.dds_world.specs.declared.step.Step.{Step}
-use Rattle.dds_world.specs.declared.trace.Made.{Made}
-use Rattle.dds_law_notice.proofs.Channels.{channel, node_of, place_in, sent}
-use Rattle.dds_law_notice.proofs.Linked.{IsLinked, same-or-not}
-use Rattle.dds_law_notice.proofs.Nodes.{brick-here, get-set-other, get-set-same, library-here}
-use Rattle.dds_law_refusal.proofs.CallRows.{Meaning}
-use Rattle.dds_law_refusal.proofs.LibraryRows.{LibraryGoes, LibraryOk, Tied}
-use Rattle.dds_law_refusal.proofs.Lists.{all-map, some-is}
-use Rattle.dds_law_refusal.proofs.Meanings.{Fact, TiesLast, fact-later, library-later, meaning}
-use Rattle.dds_law_refusal.proofs.Moves.{Moved, addressed}
+use Rattle.dds_states.specs.declared.library_state.OpenCall.{OpenCall}
+use Rattle.dds_states.specs.declared.library_state.Phase.{Phase}
+use Rattle.dds_states.specs.declared.library_state.Phase.TheVariants as phase
+use Rattle.dds_core.proofs.LibraryAttempts.{AreOpen, IsOpen, Tied}
+use Rattle.dds_core.proofs.Lists.{all-map}
+use Rattle.dds_world.specs.Refusals.{GetWasRefused, LeaseWasRefused, UpdateWasDenied, WasMet}
+use Rattle.dds_cluster.specs.declared.step.Step.{Step}
+use Rattle.dds_net.proofs.Carried.{AllCarried}
+use Rattle.dds_net.specs.Net.{Net, Node, nowhere, a_brick, a_library}
+use Rattle.dds_law_refusal.proofs.Later.{get-later, lease-later, met-later, update-later}
 
--- The invariant: each letter on its way says what was so, and each library keeps what was so.
+-- The invariant, of a journal and the nodes and channels that it leaves. What was refused is history: it names a place of the
+-- journal, and stays so as the journal grows. So each part is of one letter on its way, or of one node.
+--
+-- | part | why it is needed | which rows keep it |
+-- |---|---|---|
+-- | a node's state has the node's number | an order says by its brick's own number what it met; an attempt names its library | all: none changes a number |
+-- | an open call's attempt is its library's, and below the next one (`IsOpen`) | a letter of an attempt comes to that library; a new attempt is of no letter that is on its way | a library's: Input, and all that begin an attempt again |
+-- | a Get or Prepare on its way is of an attempt that isn't to come and is of no open call but the one that it names (`TiedIn`) | what is refused of it is refused of that call | a library's send them; they end calls and begin new attempts |
+-- | a Got or Vote that refuses was so (`GetWasRefused`, `UpdateWasDenied`), and its attempt is tied to the call that was refused | it is claimed; the call that takes it is that call | a brick's Get and Prepare |
+-- | a LeaseRefused was so, of the brick that it comes to | it is claimed; an order may end because of it | a brick's Lease |
+-- | an aborting call keeps a denial of its attempt that was so, and an asking one something that it met (`PhaseOk`) | they are claimed; what is met ends as the other | a library's Vote (to abort); Got, Aborted, MapTell and Notice (to ask) |
 
-abbrev pub OnItsWay : OpeningOf → List Step → World → ℕ → ℕ → Message → Type 0
-OnItsWay o journal w i j m = (place_in o.bricks m.to ≡ j) × Fact o.bricks o journal w (node_of o.bricks i) m.to m.letter
+-- a denial of this attempt of this call
+abbrev pub WasDenied : OpeningOf → List Step → Txn → ℕ → CallNo → NodeNo → Denial → Type 0
+WasDenied o journal txn caller call brick why = (was : UpdateWasDenied o journal brick txn why) × (was.caller ≡ caller) × (was.call ≡ call)
 
-pub record IsGood (o : OpeningOf) (journal : List Step) (w : World) : Type 0 where
-  pub linked : IsLinked o.bricks o.libraries w
-  pub carried : (i j : ℕ) → i < o.bricks + o.libraries → j < o.bricks + o.libraries → AllByRecursion (OnItsWay o journal w i j) (channel w o.bricks i j)
-  pub libraries : (n : ℕ) (s : LibraryState) → library_at w n ≡ Some s → (s.number ≡ n) × LibraryOk (meaning o journal) s
-  pub bricks : (n : ℕ) (s : BrickState) → brick_at w n ≡ Some s → s.number ≡ n
+abbrev pub PhaseOk : OpeningOf → List Step → Txn → ℕ → CallNo → Phase → Type 0
+PhaseOk o journal txn caller call (phase.Aborting waiting why brick) = WasDenied o journal txn caller call brick why
+PhaseOk o journal txn caller call (phase.Asking waiting newest m) = WasMet o journal caller call m
+PhaseOk o journal txn caller call other = Unit {0}
 
--- an order that is answered with what it met
-abbrev pub OrderOk : OpeningOf → List Step → ℕ → OrderReply → Type 0
-OrderOk o journal at (answered.Refused m) = OrderWasRefused o journal at m
-OrderOk o journal at other = Unit {0}
+abbrev pub CallOk : OpeningOf → List Step → OpenCall → Type 0
+CallOk o journal c = PhaseOk o journal c.txn c.request.caller c.request.call c.phase
 
-abbrev pub ReplyOk : OpeningOf → List Step → ℕ → Replied → Type 0
-ReplyOk o journal at (replied.Order reply) = OrderOk o journal at reply
-ReplyOk o journal at (replied.Call txn caller call reply) = Unit {0}
+abbrev pub NodeOk : OpeningOf → List Step → ℕ → Node → Type 0
+NodeOk o journal k nowhere = Unit {0}
+NodeOk o journal k (a_brick s) = s.number ≡ k
+NodeOk o journal k (a_library s) = (s.number ≡ k) × AreOpen (CallOk o journal) s
 
--- where a step stands in its journal
-pub last-is : {X : Type 0} (xs : List X) (x : X) → slice_get (xs ++ x ∷ []) (length xs) ≡ Some x
-last-is [] x = refl
-last-is (y ∷ xs) x = last-is xs x
+-- the attempt is tied to the call in its library
+abbrev pub TiedAt : Txn → ℕ → CallNo → Node → Type 0
+TiedAt txn caller call nowhere = Unit {0}
+TiedAt txn caller call (a_brick s) = Unit {0}
+TiedAt txn caller call (a_library s) = Tied s txn caller call
 
-pub world-now : (o : OpeningOf) (journal more : List Step) → world_at o (journal ++ more) (length journal) ≡ (run_of o journal).world
-world-now o journal more = ap (λ (steps : List Step). (run_of o steps).world) (take-append_seam journal more)
+abbrev pub TiedIn : Net → Txn → ℕ → CallNo → Type 0
+TiedIn n txn caller call = TiedAt txn caller call (n.node txn.library)
 
--- a library, after a step, from what it was
-pub record LibraryStep (Q : Meaning) (w : World) (n : ℕ) (s : LibraryState) : Type 0 where
-  pub before : LibraryState
-  pub there : library_at w n ≡ Some before
-  pub number : s.number ≡ before.number
-  pub ties : (txn : Txn) (caller : ℕ) (call : CallNo) → Tied before txn caller call → Tied s txn caller call
-  pub ok : LibraryOk Q s
+-- what is said of a letter on its way
+abbrev pub AnswerOk : OpeningOf → List Step → Net → NodeNo → Txn → Answer → Type 0
+AnswerOk o journal n from txn (answer.Refused why) = (was : GetWasRefused o journal from txn why) × TiedIn n txn was.caller was.call
+AnswerOk o journal n from txn other = Unit {0}
 
-abbrev pub Grown : List Step → Step → List Step
-Grown journal x = journal ++ x ∷ []
+abbrev pub BallotOk : OpeningOf → List Step → Net → NodeNo → Txn → Ballot → Type 0
+BallotOk o journal n from txn ballot.Yes = Unit {0}
+BallotOk o journal n from txn (ballot.No why) = (was : UpdateWasDenied o journal from txn why) × TiedIn n txn was.caller was.call
 
-pub same-library : (o : OpeningOf) (journal : List Step) (x : Step) (w : World) (n : ℕ) (s : LibraryState) → IsGood o journal w → library_at w n ≡ Some s → LibraryStep (meaning o (Grown journal x)) w n s
-same-library o journal x w n s g e =
-    record { before = s; there = e; number = refl; ties = λ txn caller call tie. tie; ok = library-later o journal (x ∷ []) s (g.libraries n s e).1 }
+abbrev pub LetterOk : OpeningOf → List Step → Net → NodeNo → NodeNo → Letter → Type 0
+LetterOk o journal n from to (letter.Get txn caller call key name stamp) = TiedIn n txn caller call
+LetterOk o journal n from to (letter.Prepare txn caller call below name stamp list op) = TiedIn n txn caller call
+LetterOk o journal n from to (letter.Got txn a) = AnswerOk o journal n from txn a
+LetterOk o journal n from to (letter.Vote txn vote) = BallotOk o journal n from txn vote
+LetterOk o journal n from to (letter.LeaseRefused number why) = LeaseWasRefused o journal from to number why
+LetterOk o journal n from to other = Unit {0}
 
--- a step, from what it does to channels, libraries and bricks
-pub good-step : (o : OpeningOf) (journal : List Step) (x : Step) (at : ℕ) (new : List Message) (w u : World) → IsGood o journal w → IsLinked o.bricks o.libraries u → Moved o.bricks o.libraries at new w u → ((n : ℕ) (s : LibraryState) → library_at u n ≡ Some s → LibraryStep (meaning o (Grown journal x)) w n s) → ((n : ℕ) (s : BrickState) → brick_at u n ≡ Some s → s.number ≡ n) → (TiesLast w u → (j : ℕ) → AllByRecursion (OnItsWay o (Grown journal x) u at j) (sent o.bricks j new)) → IsGood o (Grown journal x) u
-good-step o journal x at new w u g linked moved libraries bricks news =
-    let last : TiesLast w u = (λ txn caller call tie s e. let k = libraries txn.library s e in k.ties txn caller call (tie k.before k.there)) in
-    record {
-      linked = linked;
-      carried = λ i j hi hj. moved.keeps (OnItsWay o (Grown journal x) u i j) i j hi hj (all-map (OnItsWay o journal w i j) (OnItsWay o (Grown journal x) u i j) (channel w o.bricks i j) (λ m h. (h.0, fact-later o.bricks o journal (x ∷ []) w u (node_of o.bricks i) m.to m.letter last h.1)) (g.carried i j hi hj)) (λ same. subst (λ k. AllByRecursion (OnItsWay o (Grown journal x) u k j) (sent o.bricks j new)) (sym same) (news last j));
-      libraries = λ n s e. let k = libraries n s e in (k.number ∙ (g.libraries n k.before k.there).0, k.ok);
-      bricks = bricks;
-    }
+pub record IsGood (o : OpeningOf) (journal : List Step) (n : Net) : Type 0 where
+  pub nodes : (k : ℕ) → NodeOk o journal k (n.node k)
+  pub letters : AllCarried (LetterOk o journal n) n
 
--- a brick's turn
-abbrev pub brick_in : List BrickState → ℕ → Option BrickState
-brick_in bs n = if nat_lt n 64 then slice_get bs n else None
+-- It stays so as the journal grows, and as libraries go on.
 
-pub set-brick : (bs : List BrickState) (n k : ℕ) (t s : BrickState) → n < 64 → n < length bs → ((i : ℕ) (y : BrickState) → brick_in bs i ≡ Some y → y.number ≡ i) → t.number ≡ n → brick_in (slice_set bs n t) k ≡ Some s → s.number ≡ k
-set-brick bs n k t s low inside old own e = elim (same-or-not k n) [
-  | inl same ↦
-      let b : nat_lt n 64 ≡ true = grind (arith, nat_tests, low) in
-      let is : brick_in (slice_set bs n t) n ≡ Some s = subst (λ i. brick_in (slice_set bs n t) i ≡ Some s) same e in
-      let found : slice_get (slice_set bs n t) n ≡ Some s = sym (ap (λ c. if c then slice_get (slice_set bs n t) n else None) b) ∙ is in
-      ap (λ (y : BrickState). y.number) (sym (some-is t s (sym (get-set-same bs n t inside) ∙ found))) ∙ own ∙ sym same
-  | inr other ↦ old k s (ap (λ y. if nat_lt k 64 then y else None) (sym (get-set-other bs n k t (λ h. other (sym h)))) ∙ e)
-]
+phase-later : (o : OpeningOf) (journal more : List Step) (txn : Txn) (caller : ℕ) (call : CallNo) (p : Phase) → PhaseOk o journal txn caller call p → PhaseOk o (journal ++ more) txn caller call p
+phase-later o journal more txn caller call (phase.Aborting waiting why brick) h = (update-later o journal more brick txn why h.0, h.1, h.2)
+phase-later o journal more txn caller call (phase.Asking waiting newest m) h = met-later o journal more caller call m h
+phase-later o journal more txn caller call other h = tt
 
-pub good-brick : (o : OpeningOf) (journal : List Step) (x : Step) (n : ℕ) (s : BrickState) (t : BrickTurn) (made : List Made) (w v : World) → IsGood o journal w → v.libraries ≡ w.libraries → v.bricks ≡ w.bricks → n < 64 → n < length w.bricks → slice_get w.bricks n ≡ Some s → t.state.number ≡ s.number → IsLinked o.bricks o.libraries (brick_does v n t made).world → Moved o.bricks o.libraries n (numbered v.made t.out.letters) w (brick_does v n t made).world → (TiesLast w (brick_does v n t made).world → AllByRecursion (λ (p : NodeNo × Letter). Fact o.bricks o (Grown journal x) (brick_does v n t made).world (node_of o.bricks n) p.0 p.1) t.out.letters) → IsGood o (Grown journal x) (brick_does v n t made).world
-good-brick o journal x n s t made w v g hl hb low inside is number linked moved news =
-    let u = (brick_does v n t made).world in
-    good-step o journal x n (numbered v.made t.out.letters) w u g linked moved
-    (λ k y e. same-library o journal x w k y g (ap (λ ls. if nat_lt k 64 then None else slice_get ls (k - 64)) (sym hl) ∙ e))
-    (λ k y e. set-brick w.bricks n k t.state y low inside g.bricks (number ∙ g.bricks n s (brick-here w n s low is)) (ap (λ bs. brick_in (slice_set bs n t.state) k) (sym hb) ∙ e))
-    (λ last j. addressed (λ to l. Fact o.bricks o (Grown journal x) u (node_of o.bricks n) to l) o.bricks j v.made t.out.letters (news last))
+pub calls-later : (o : OpeningOf) (journal more : List Step) (s : LibraryState) → AreOpen (CallOk o journal) s → AreOpen (CallOk o (journal ++ more)) s
+calls-later o journal more s h =
+    all-map (IsOpen (CallOk o journal) s.number s.next) (IsOpen (CallOk o (journal ++ more)) s.number s.next) s.calls
+    (λ c f. record { library = f.library; below = f.below; kept = phase-later o journal more c.txn c.request.caller c.request.call c.phase f.kept }) h
 
--- a library's turn
-abbrev pub library_in : List LibraryState → ℕ → Option LibraryState
-library_in ls n = if nat_lt n 64 then None else slice_get ls (n - 64)
+pub node-later : (o : OpeningOf) (journal more : List Step) (k : ℕ) (x : Node) → NodeOk o journal k x → NodeOk o (journal ++ more) k x
+node-later o journal more k nowhere h = tt
+node-later o journal more k (a_brick s) h = h
+node-later o journal more k (a_library s) h = (h.0, calls-later o journal more s h.1)
 
-pub set-here : (ls : List LibraryState) (n : ℕ) (t : LibraryState) → 64 ≤ n → n - 64 < length ls → library_in (slice_set ls (n - 64) t) n ≡ Some t
-set-here ls n t high inside =
-    let b : nat_lt n 64 ≡ false = grind (arith, nat_tests, high) in
-    ap (λ c. if c then None else slice_get (slice_set ls (n - 64) t) (n - 64)) b ∙ get-set-same ls (n - 64) t inside
+-- what is tied in a node before is tied in the node after
+abbrev pub Lasts : Node → Node → Type 0
+Lasts x y = (txn : Txn) (caller : ℕ) (call : CallNo) → TiedAt txn caller call x → TiedAt txn caller call y
 
-high-if : (ls : List LibraryState) (k : ℕ) (s : LibraryState) (c : Bool) → nat_lt k 64 ≡ c → (if c then None else slice_get ls (k - 64)) ≡ Some s → 64 ≤ k
-high-if ls k s true e h = cc
-high-if ls k s false e h = grind (arith, nat_tests, e)
+abbrev pub AllLast : Net → Net → Type 0
+AllLast n u = (k : ℕ) → Lasts (n.node k) (u.node k)
 
-set-apart : (ls : List LibraryState) (n k : ℕ) (t s : LibraryState) → 64 ≤ n → (k ≡ n → ⊥) → library_in (slice_set ls (n - 64) t) k ≡ Some s → library_in ls k ≡ Some s
-set-apart ls n k t s high other e =
-    let far = high-if (slice_set ls (n - 64) t) k s (nat_lt k 64) refl e in
-    ap (λ y. if nat_lt k 64 then None else y) (sym (get-set-other ls (n - 64) (k - 64) t (λ h. other (omega (arith, high, far, h))))) ∙ e
+answer-later : (o : OpeningOf) (journal more : List Step) (n u : Net) (from : NodeNo) (txn : Txn) (a : Answer) → AllLast n u → AnswerOk o journal n from txn a → AnswerOk o (journal ++ more) u from txn a
+answer-later o journal more n u from txn (answer.Refused why) f h = (get-later o journal more from txn why h.0, f txn.library txn h.0.caller h.0.call h.1)
+answer-later o journal more n u from txn other f h = tt
 
--- the libraries with one of them after a turn
-pub set-library : (o : OpeningOf) (journal : List Step) (x : Step) (n : ℕ) (t : LibraryState) (w : World) → IsGood o journal w → 64 ≤ n → n - 64 < length w.libraries → LibraryStep (meaning o (Grown journal x)) w n t → (k : ℕ) (y : LibraryState) → library_in (slice_set w.libraries (n - 64) t) k ≡ Some y → LibraryStep (meaning o (Grown journal x)) w k y
-set-library o journal x n t w g high inside ready k y now = elim (same-or-not k n) [
-  | inl same ↦
-      let is_t : t ≡ y = some-is t y (sym (set-here w.libraries n t high inside) ∙ subst (λ i. library_in (slice_set w.libraries (n - 64) t) i ≡ Some y) same now) in
-      subst (λ i. LibraryStep (meaning o (Grown journal x)) w i y) (sym same) (subst (LibraryStep (meaning o (Grown journal x)) w n) is_t ready)
-  | inr other ↦ same-library o journal x w k y g (set-apart w.libraries n k t y high other now)
-]
+ballot-later : (o : OpeningOf) (journal more : List Step) (n u : Net) (from : NodeNo) (txn : Txn) (vote : Ballot) → AllLast n u → BallotOk o journal n from txn vote → BallotOk o (journal ++ more) u from txn vote
+ballot-later o journal more n u from txn ballot.Yes f h = tt
+ballot-later o journal more n u from txn (ballot.No why) f h = (update-later o journal more from txn why h.0, f txn.library txn h.0.caller h.0.call h.1)
 
-pub good-library : (o : OpeningOf) (journal : List Step) (x : Step) (n at : ℕ) (s : LibraryState) (t : LibraryTurn) (w v : World) → IsGood o journal w → v.libraries ≡ w.libraries → v.bricks ≡ w.bricks → 64 ≤ n → n - 64 < length w.libraries → slice_get w.libraries (n - 64) ≡ Some s → LibraryGoes (meaning o (Grown journal x)) s t → IsLinked o.bricks o.libraries (library_does v n t).world → Moved o.bricks o.libraries at (numbered v.made t.out.letters) w (library_does v n t).world → AllByRecursion (λ (p : NodeNo × Letter). Fact o.bricks o (Grown journal x) (library_does v n t).world (node_of o.bricks at) p.0 p.1) t.out.letters → IsGood o (Grown journal x) (library_does v n t).world
-good-library o journal x n at s t w v g hl hb high inside is goes linked moved news =
-    let u = (library_does v n t).world in
-    good-step o journal x at (numbered v.made t.out.letters) w u g linked moved
-    (λ k y e. set-library o journal x n t.state w g high inside (record { before = s; there = library-here w n s high is; number = goes.number; ties = goes.ties; ok = goes.ok }) k y (ap (λ ls. library_in (slice_set ls (n - 64) t.state) k) (sym hl) ∙ e))
-    (λ k y e. g.bricks k y (ap (λ bs. brick_in bs k) (sym hb) ∙ e))
-    (λ last j. addressed (λ to l. Fact o.bricks o (Grown journal x) u (node_of o.bricks at) to l) o.bricks j v.made t.out.letters news)
+pub letter-later : (o : OpeningOf) (journal more : List Step) (n u : Net) (from to : NodeNo) (l : Letter) → AllLast n u → LetterOk o journal n from to l → LetterOk o (journal ++ more) u from to l
+letter-later o journal more n u from to (letter.Get txn caller call key name stamp) f h = f txn.library txn caller call h
+letter-later o journal more n u from to (letter.Prepare txn caller call below name stamp list op) f h = f txn.library txn caller call h
+letter-later o journal more n u from to (letter.Got txn a) f h = answer-later o journal more n u from txn a f h
+letter-later o journal more n u from to (letter.Vote txn vote) f h = ballot-later o journal more n u from txn vote f h
+letter-later o journal more n u from to (letter.LeaseRefused number why) f h = lease-later o journal more from to number why h
+letter-later o journal more n u from to other f h = tt
+
+pub letters-later : (o : OpeningOf) (journal more : List Step) (n u : Net) → AllLast n u → AllCarried (LetterOk o journal n) n → AllCarried (LetterOk o (journal ++ more) u) n
+letters-later o journal more n u f g a b = all-map (LetterOk o journal n a b) (LetterOk o (journal ++ more) u a b) (n.channel a b) (λ l h. letter-later o journal more n u a b l f h) (g a b)

@@ -1,11 +1,6 @@
-pub mod Lists
-pub mod CallRows
-pub mod LibraryRows
-pub mod Meanings
-pub mod Moves
+pub mod Later
 pub mod Good
-pub mod BrickSteps
-pub mod LibrarySteps
+pub mod Calls
+pub mod Bricks
 pub mod Steps
-pub mod Runs
 pub mod Facts

@@ -1,4 +1,3 @@
-pub mod Sizes
 pub mod Places
 pub mod Nodes
 pub mod Links
@@ -17,3 +16,5 @@ pub mod Letters
 pub mod OneWay
 pub mod PairTakes
 pub mod BrickFolds
+pub mod Carried
+pub mod Journals

@@ -3,9 +3,9 @@ use Rattle.std.proofs.lemmas.Bool.{cases_eq, eq-eqb, ne_eqb}
 use Rattle.std.proofs.lemmas.List.{append_assoc, length-set, get_or-set_same, get_or-set_other}
 use Rattle.std.proofs.lemmas.List.Elements.{filter-append}
 use Rattle.std.specs.Prelude.{slice_index_or, slice_set, if◌then◌else◌}
-use Rattle.dds_world.specs.World.{World}
-use Rattle.dds_world.specs.declared.step.Message.{Message}
-use Rattle.dds_net.proofs.Sizes.{AreRows, IsSized}
+use Rattle.dds_cluster.specs.World.{World}
+use Rattle.dds_cluster.specs.declared.step.Message.{Message}
+use Rattle.dds_cluster.proofs.Sizes.{AreRows, IsSized}
 use Rattle.dds_net.specs.Net.{place_in, box, lane, sent, channel}
 
 -- A letter that is posted leaves its channel as it was, and one that is taken is the first of its link.

@@ -8,8 +8,8 @@ use Rattle.dds_base.specs.declared.number.NodeNo.{NodeNo}
 use Rattle.dds_letters.specs.declared.letter.Letter.{Letter}
 use Rattle.dds_states.specs.declared.brick_state.BrickState.{BrickState}
 use Rattle.dds_states.specs.declared.library_state.LibraryState.{LibraryState}
-use Rattle.dds_world.specs.World.{World, brick_at, library_at, numbered, send}
-use Rattle.dds_world.specs.declared.step.Message.{Message}
+use Rattle.dds_cluster.specs.World.{World, brick_at, library_at, numbered, send}
+use Rattle.dds_cluster.specs.declared.step.Message.{Message}
 use Rattle.dds_net.specs.Event.{does, takes, without_first}
 use Rattle.dds_net.specs.Net.{Net, Node, a_brick, a_library, Sizes, box, changed, channel, channel_at, gains, is_in, landing, lands, lane, letters_of, net, node_at, node_in, place_in, put, sent, when_in}
 use Rattle.dds_net.proofs.Links.{Popped, sent-more}

@@ -3,7 +3,7 @@ use Rattle.std.proofs.lemmas.Bool.Decides.{nat_tests}
 use Rattle.std.specs.Prelude.{slice_get, slice_set, nat_lt, if◌then◌else◌}
 use Rattle.dds_states.specs.declared.brick_state.BrickState.{BrickState}
 use Rattle.dds_states.specs.declared.library_state.LibraryState.{LibraryState}
-use Rattle.dds_world.specs.World.{World, brick_at, is_node, library_at}
+use Rattle.dds_cluster.specs.World.{World, brick_at, is_node, library_at}
 use Rattle.dds_net.specs.Net.{place_in}
 
 -- Bricks and libraries of a world by their numbers.

@@ -3,9 +3,9 @@ use Rattle.std.proofs.lemmas.Bool.Decides.{nat_tests}
 use Rattle.std.specs.Prelude.{nat_lt, replicate, slice_get, slice_index_or, if◌then◌else◌}
 use Rattle.dds_script.specs.Opening.{OpeningOf}
 use Rattle.dds_states.specs.declared.library_state.LibraryState.{LibraryState}
-use Rattle.dds_world.specs.Trace.{start}
-use Rattle.dds_world.specs.World.{new_brick, new_bricks, new_library, new_libraries}
-use Rattle.dds_world.specs.declared.step.Message.{Message}
+use Rattle.dds_cluster.specs.Trace.{start}
+use Rattle.dds_cluster.specs.World.{new_brick, new_bricks, new_library, new_libraries}
+use Rattle.dds_cluster.specs.declared.step.Message.{Message}
 use Rattle.dds_net.specs.Net.{Node, nowhere, a_brick, a_library, channel, is_in, letters_of, net, node_in, place_in, sent, sizes_of, when_in}
 
 -- The nodes and channels before the first step.

@@ -1,8 +1,8 @@
 use Rattle.std.proofs.Common.{◌≡◌, ℕ, ◌+◌, ◌-◌, ◌<◌, ◌≤◌, ◌⊎◌, inl, inr, Bool, true, false, length, refl, ap, ◌∙◌, arith}
 use Rattle.std.proofs.lemmas.Bool.Decides.{nat_tests}
 use Rattle.std.specs.Prelude.{nat_lt, if◌then◌else◌}
-use Rattle.dds_net.proofs.Sizes.{IsSized}
-use Rattle.dds_world.specs.World.{World, is_node, place}
+use Rattle.dds_cluster.proofs.Sizes.{IsSized}
+use Rattle.dds_cluster.specs.World.{World, is_node, place}
 use Rattle.dds_net.specs.Net.{Sizes, is_in, place_in}
 
 -- Numbers of nodes, and their places.

@@ -5,12 +5,12 @@ use Rattle.dds_letters.specs.declared.letter.Letter.{Letter}
 use Rattle.dds_script.specs.Opening.{OpeningOf}
 use Rattle.dds_states.specs.declared.brick_state.BrickState.{BrickState}
 use Rattle.dds_states.specs.declared.library_state.LibraryState.{LibraryState}
-use Rattle.dds_net.proofs.Sizes.{IsSized, sized-next, sized-start}
-use Rattle.dds_world.specs.Trace.{adds, all_closed, all_kept, is_possible, is_run_from, next, run_of, start, told_at, trace_from}
-use Rattle.dds_world.specs.Turn.{turn}
-use Rattle.dds_world.specs.World.{World, brick_at, library_at}
-use Rattle.dds_world.specs.declared.step.Step.{Step}
-use Rattle.dds_world.specs.declared.trace.Trace.{Trace}
+use Rattle.dds_cluster.proofs.Sizes.{IsSized, sized-next, sized-start}
+use Rattle.dds_cluster.specs.Trace.{adds, all_closed, all_kept, is_possible, is_run_from, next, run_of, start, told_at, trace_from}
+use Rattle.dds_cluster.specs.Turn.{turn}
+use Rattle.dds_cluster.specs.World.{World, brick_at, library_at}
+use Rattle.dds_cluster.specs.declared.step.Step.{Step}
+use Rattle.dds_cluster.specs.declared.trace.Trace.{Trace}
 use Rattle.dds_net.specs.Event.{Event, Fits, History, goes, history_of, moved}
 use Rattle.dds_net.specs.Law.{IsMove}
 use Rattle.dds_net.specs.Net.{Net, nowhere, Sizes, is_in, net, node_in, when_in}

@@ -15,18 +15,18 @@ use Rattle.dds_letters.specs.declared.letter.Letter.{Letter}
 use Rattle.dds_states.specs.Turn.{BrickTurn, LibraryTurn, still}
 use Rattle.dds_states.specs.declared.brick_state.BrickState.{BrickState}
 use Rattle.dds_states.specs.declared.library_state.LibraryState.{LibraryState}
-use Rattle.dds_net.proofs.Sizes.{IsSized, sized-bricks, sized-libraries, sized-link}
-use Rattle.dds_world.specs.Trace.{asked_by, has_first, is_live_brick, is_live_library, is_possible, may_call, may_input, may_order, opened_by}
-use Rattle.dds_world.specs.Turn.{at_library, at_node, brick_does, call_at, handle, input_at, library_does, no_step, order_at, points_made, post, stop_at, stop_library, tells, turn}
-use Rattle.dds_world.specs.World.{World, brick_at, emptied, is_node, library_at, link, outbox, place, set_link}
-use Rattle.dds_world.specs.declared.step.Input.{Input}
-use Rattle.dds_world.specs.declared.step.Input.TheVariants as input
-use Rattle.dds_world.specs.declared.step.Message.{Message}
-use Rattle.dds_world.specs.declared.step.Step.{Step}
-use Rattle.dds_world.specs.declared.step.Step.TheVariants as step
-use Rattle.dds_world.specs.declared.trace.Caller.{Caller}
-use Rattle.dds_world.specs.declared.trace.Made.{Made}
-use Rattle.dds_world.specs.declared.trace.Trace.{Trace}
+use Rattle.dds_cluster.proofs.Sizes.{IsSized, sized-bricks, sized-libraries, sized-link}
+use Rattle.dds_cluster.specs.Trace.{asked_by, has_first, is_live_brick, is_live_library, is_possible, may_call, may_input, may_order, opened_by}
+use Rattle.dds_cluster.specs.Turn.{at_library, at_node, brick_does, call_at, handle, input_at, library_does, no_step, order_at, points_made, post, stop_at, stop_library, tells, turn}
+use Rattle.dds_cluster.specs.World.{World, brick_at, emptied, is_node, library_at, link, outbox, place, set_link}
+use Rattle.dds_cluster.specs.declared.step.Input.{Input}
+use Rattle.dds_cluster.specs.declared.step.Input.TheVariants as input
+use Rattle.dds_cluster.specs.declared.step.Message.{Message}
+use Rattle.dds_cluster.specs.declared.step.Step.{Step}
+use Rattle.dds_cluster.specs.declared.step.Step.TheVariants as step
+use Rattle.dds_cluster.specs.declared.trace.Caller.{Caller}
+use Rattle.dds_cluster.specs.declared.trace.Made.{Made}
+use Rattle.dds_cluster.specs.declared.trace.Trace.{Trace}
 use Rattle.dds_net.specs.Event.{nothing, unheard, brick_takes, brick_told, brick_stops, library_takes, library_asked, library_stops, unasked, IsFirst, asked_turn, is_ordered, takes}
 use Rattle.dds_net.specs.Law.{IsMove}
 use Rattle.dds_net.specs.Net.{Node, a_brick, a_library, Sizes, box, changed, is_in, letters_of, net, node_at, node_in, place_in, put, sent, when_in}
@@ -163,7 +163,7 @@ first-is z w v n from m ms hn hf p =
     let j = place_in z.bricks n in
     record { receiver = hn; sender = hf; others = letters_of (ms ++ sent z.bricks j (box w i)); first = guard-true (is_in z from && is_in z n) _ (both-true (is_in z from) (is_in z n) hf hn) ∙ ap (λ x. letters_of (x ++ sent z.bricks j (box w i))) p.was }
 
-brick-if : (z : Sizes) (cs : List Caller) (at : ℕ) (w v : World) (n from : NodeNo) (m : Message) (ms : List Message) (s : BrickState) (c : Bool) → z.bricks ≤ 64 → IsSized z.bricks z.libraries v → is_in z n ≡ true → is_in z from ≡ true → Popped (place_in z.bricks from) (place_in z.bricks n) m ms w v → ((i : ℕ) → box v i ≡ box w i) → ((k : ℕ) → node_at v k ≡ node_at w k) → brick_at v n ≡ Some s → s.stopped ≡ c → IsMove z cs at w (step.Handle n from) (brick_does v n (if c then still s else live_brick_turn s from m.letter) (points_made at s.locks.pending m.letter (if c then still s else live_brick_turn s from m.letter).out.points))
+brick-if : (z : Sizes) (cs : List Caller) (at : ℕ) (w v : World) (n from : NodeNo) (m : Message) (ms : List Message) (s : BrickState) (c : Bool) → z.bricks ≤ 64 → IsSized z.bricks z.libraries v → is_in z n ≡ true → is_in z from ≡ true → Popped (place_in z.bricks from) (place_in z.bricks n) m ms w v → ((i : ℕ) → box v i ≡ box w i) → ((k : ℕ) → node_at v k ≡ node_at w k) → brick_at v n ≡ Some s → s.stopped ≡ c → IsMove z cs at w (step.Handle n from) (brick_does v n (if c then still s else live_brick_turn s from m.letter) (points_made at m.letter (if c then still s else live_brick_turn s from m.letter).out.points))
 brick-if z cs at w v n from m ms s true few g hn hf p o k e c =
     let here : node_at w n ≡ a_brick s = sym (k n) ∙ brick-node v n s e in
     record {

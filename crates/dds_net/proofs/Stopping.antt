@@ -7,8 +7,8 @@ use Rattle.dds_base.specs.BrickList.{has}
 use Rattle.dds_letters.specs.declared.letter.Letter.{Letter}
 use Rattle.dds_letters.specs.declared.letter.Letter.TheVariants as letter
 use Rattle.dds_states.specs.Turn.{numbers_from, to_each, without}
-use Rattle.dds_world.specs.Turn.{tells}
-use Rattle.dds_world.specs.World.{World, all_nodes, numbered, place}
+use Rattle.dds_cluster.specs.Turn.{tells}
+use Rattle.dds_cluster.specs.World.{World, all_nodes, numbered, place}
 use Rattle.dds_net.specs.Event.{IsFront, IsLeft, notice_to, stops}
 use Rattle.dds_net.specs.Net.{Node, Sizes, box, changed, channel_at, is_in, landing, lane, letters_of, net, node_at, place_in, put, sent, when_in}
 use Rattle.dds_net.proofs.Nets.{landing-is, letters-append, net-is, same-channel}
@@ -17,7 +17,7 @@ use Rattle.dds_net.proofs.Pairwise.{Pairwise, pairs-append, pairs-filter}
 use Rattle.dds_net.proofs.Places.{high-in, in-parts, low-in, one-place, place-below, place-is}
 use Rattle.dds_net.proofs.Projections.{each-landing}
 use Rattle.dds_net.proofs.Puts.{is-changed}
-use Rattle.dds_net.proofs.Sizes.{IsSized}
+use Rattle.dds_cluster.proofs.Sizes.{IsSized}
 
 -- A node that stops tells each other one once.
 

@@ -5,10 +5,10 @@ use Rattle.std.specs.Prelude.{slice_get, slice_index_or, if◌then◌else◌}
 use Rattle.dds_letters.specs.declared.letter.Letter.{Letter}
 use Rattle.dds_states.specs.declared.brick_state.BrickState.{BrickState}
 use Rattle.dds_states.specs.declared.library_state.LibraryState.{LibraryState}
-use Rattle.dds_net.proofs.Sizes.{IsSized}
-use Rattle.dds_world.specs.Reached.{Travels}
-use Rattle.dds_world.specs.World.{World, brick_at, library_at, link, place}
-use Rattle.dds_world.specs.declared.step.Message.{Message}
+use Rattle.dds_cluster.proofs.Sizes.{IsSized}
+use Rattle.dds_world.specs.Places.{Travels}
+use Rattle.dds_cluster.specs.World.{World, brick_at, library_at, link, place}
+use Rattle.dds_cluster.specs.declared.step.Message.{Message}
 use Rattle.dds_net.specs.Net.{nowhere, a_brick, a_library, Sizes, box, channel, channel_at, is_in, lane, letters_of, node_at, node_in, place_in, sent, when_in}
 use Rattle.dds_net.proofs.Links.{row-length}
 use Rattle.dds_net.proofs.Nodes.{brick-place, library-place}

@@ -2,13 +2,13 @@
 use Rattle.std.specs.Prelude.{ℕ, ◌≡◌, true, List}
 use Rattle.dds_script.specs.Opening.{OpeningOf, ranges_of}
 use Rattle.dds_script.specs.Ranges.{IsRanges}
-use Rattle.dds_world.specs.Trace.{asked_by, is_possible, opened_by, run_of}
-use Rattle.dds_world.specs.Turn.{WorldTurn, turn}
-use Rattle.dds_world.specs.World.{World}
-use Rattle.dds_world.specs.declared.step.Input.TheVariants as input
-use Rattle.dds_world.specs.declared.step.Step.{Step}
-use Rattle.dds_world.specs.declared.step.Step.TheVariants as step
-use Rattle.dds_world.specs.declared.trace.Caller.{Caller}
+use Rattle.dds_cluster.specs.Trace.{asked_by, is_possible, opened_by, run_of}
+use Rattle.dds_cluster.specs.Turn.{WorldTurn, turn}
+use Rattle.dds_cluster.specs.World.{World}
+use Rattle.dds_cluster.specs.declared.step.Input.TheVariants as input
+use Rattle.dds_cluster.specs.declared.step.Step.{Step}
+use Rattle.dds_cluster.specs.declared.step.Step.TheVariants as step
+use Rattle.dds_cluster.specs.declared.trace.Caller.{Caller}
 use Rattle.dds_net.specs.Net.{Sizes, net, sizes_of}
 use Rattle.dds_net.specs.Event.{Event, nothing, unheard, unasked, brick_takes, brick_told, brick_stops, library_takes, library_asked, library_stops, Fits, asked_of, moved, opened_of, points_of, replies_of}
 

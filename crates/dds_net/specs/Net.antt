@@ -5,8 +5,8 @@ use Rattle.dds_letters.specs.declared.letter.Letter.{Letter}
 use Rattle.dds_script.specs.Opening.{OpeningOf}
 use Rattle.dds_states.specs.declared.brick_state.BrickState.{BrickState}
 use Rattle.dds_states.specs.declared.library_state.LibraryState.{LibraryState}
-use Rattle.dds_world.specs.World.{World, brick_at, library_at}
-use Rattle.dds_world.specs.declared.step.Message.{Message}
+use Rattle.dds_cluster.specs.World.{World, brick_at, library_at}
+use Rattle.dds_cluster.specs.declared.step.Message.{Message}
 
 -- what has this number
 pub data Node : Type 0 where

@@ -1,7 +1,7 @@
 //! How an order of this brick goes on: from its leases to its copy, and from there to the leaf that it makes.
 
 ghost use Rattle.std.specs.Prelude.{◌≡◌, [], ◌∷◌, ◌++◌, IfOk, OnOk, Some, None, filter};
-ghost use Rattle.dds_order_rows.specs.OwnOrder.{parting, takes_part, made_leaf, installs_from, installs, first_source, copies_from, copies, going_on, leases_on, leased_all, leased_all_at, installs_on};
+ghost use Rattle.dds_order_rows.specs.OwnOrder.{parting, takes_part, made_leaf, installs_from, installs, sources, copies_from, copies, going_on, leases_on, leased_all, leased_all_at, installs_on};
 
 use crate::finishing::{end, finish, is_join};
 use dds_base::leaf::Leaf;
@@ -129,7 +129,7 @@ fn sources(
     order: &OpenOrder,
     leaf: &Leaf,
 ) -> Result<NodeList, Memory>
-    ensures { IfOk result (λ list. list ≡ first_source state.now order.now leaf.now) }
+    ensures { IfOk result (λ list. list ≡ sources state.now order.now leaf.now) }
 {
     let live = unknown_members(alloc, &leaf.list, &state.known)?;
     let mut list = NodeList::new(alloc);

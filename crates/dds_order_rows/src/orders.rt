@@ -104,9 +104,9 @@ fn pairs_after(
     Ok(found)
 }
 
-/// The first pairs, at most 32 of them, whose places rise.
+/// The first pairs, as many as a part takes, whose places rise.
 fn first_pairs(alloc: Global, pairs: &[Pair]) -> Result<CopiedPairs, Memory>
-    ensures { IfOk result (λ copied. copied ≡ take 32 pairs.now) }
+    ensures { IfOk result (λ copied. copied ≡ take COPIED pairs.now) }
 {
     let mut copied = CopiedPairs::new(alloc);
     let mut last = None;
@@ -121,7 +121,8 @@ fn first_pairs(alloc: Global, pairs: &[Pair]) -> Result<CopiedPairs, Memory>
     Ok(copied)
 }
 
-/// Where the sender has the lease and the name is an own leaf's, sends the next 32 pairs, and whether none follow.
+/// Where the sender has the lease and the name is an own leaf's, sends the next pairs, as many as a part takes, and
+/// whether none follow.
 pub fn copy_ask(
     alloc: Global,
     state: &BrickState,

@@ -9,6 +9,7 @@ ghost use Rattle.dds_order_rows.specs.OwnOrder.{fixes, fixed, widened, granted_j
 use crate::finishing::{end, is_join};
 use crate::going_on::{install, install_on, lease_on};
 use crate::own_order::{ask_others, is_worn};
+use dds_base::brick_list::MEMBERS;
 use dds_base::leaf::Leaf;
 use dds_base::memory::Memory;
 use dds_base::name::LeafName;
@@ -83,7 +84,7 @@ fn fix(
     if is_worn(leaf) {
         return end(alloc, state, order, OrderReply::Worn);
     }
-    if live(&leaf.list, &state.known).len() >= 8 {
+    if live(&leaf.list, &state.known).len() >= MEMBERS {
         return end(alloc, state, order, OrderReply::GroupFull);
     }
     ask_the_others(alloc, state, order, from, leaf)
@@ -254,7 +255,7 @@ fn are_under(name: LeafName, pairs: &[Pair]) -> bool
 
 /// Whether there is room for more pairs.
 fn has_room(copied: usize, more: usize) -> bool
-    ensures { result ≡ nat_le (copied + more) 16384 }
+    ensures { result ≡ nat_le (copied + more) PAIRS }
 {
     copied <= PAIRS && more <= PAIRS - copied
 }

@@ -18,13 +18,13 @@ use Rattle.dds_walk.specs.Law.{IsFirstLine}
 use Rattle.dds_walk.specs.Picking.{all_handles, events, first_of, handles, node_at, posts}
 use Rattle.dds_walk.specs.Walk.{Moved, after_event, call_alone, call_line, call_with, counted, event, event_by, first_walk, has_event, left, left_of, line_done, lines_done, moves, on_event, or_stays, picked_in, picks_in, played, says}
 use Rattle.dds_walk.specs.declared.walk.Walk.{Walk}
-use Rattle.dds_world.specs.Trace.{is_plain}
-use Rattle.dds_world.specs.World.{World}
-use Rattle.dds_world.specs.declared.step.Input.TheVariants as input
-use Rattle.dds_world.specs.declared.step.Message.{Message}
-use Rattle.dds_world.specs.declared.step.Step.{Step}
-use Rattle.dds_world.specs.declared.step.Step.TheVariants as step
-use Rattle.dds_world.specs.declared.trace.Caller.{Caller}
+use Rattle.dds_cluster.specs.Trace.{is_plain}
+use Rattle.dds_cluster.specs.World.{World}
+use Rattle.dds_cluster.specs.declared.step.Input.TheVariants as input
+use Rattle.dds_cluster.specs.declared.step.Message.{Message}
+use Rattle.dds_cluster.specs.declared.step.Step.{Step}
+use Rattle.dds_cluster.specs.declared.step.Step.TheVariants as step
+use Rattle.dds_cluster.specs.declared.trace.Caller.{Caller}
 
 abbrev pub IsPlain : Step → Type 0
 IsPlain s = is_plain s ≡ true

@@ -6,7 +6,7 @@ use Rattle.dds_script.specs.Opening.{ScriptOf, ranges_of}
 use Rattle.dds_script.specs.Ranges.{IsInRanges, IsRanges}
 use Rattle.dds_script.specs.declared.line.Line.{Line}
 use Rattle.dds_walk.specs.Walk.{steps}
-use Rattle.dds_world.specs.Trace.{is_plain, is_run}
+use Rattle.dds_cluster.specs.Trace.{is_plain, is_run}
 
 -- each step of the journal is possible where it stands, for each script that the reader gives
 abbrev pub StepsRun : Type 0

@@ -14,10 +14,10 @@ use dds_base::memory::Memory;
 use dds_base::number::{CallNo, CallerNo, NodeNo};
 use dds_script::opening::Script;
 use dds_transcript::report_line::{OrderKind, ReportLine};
-use dds_world::queue::Queue;
+use dds_cluster::queue::Queue;
 use dds_world::runs::stands_in;
-use dds_world::step::{EVENTS, Input, Journal, Step};
-use dds_world::trace::{Caller, Made, Told};
+use dds_cluster::step::{EVENTS, Input, Journal, Step};
+use dds_cluster::trace::{Caller, Made, Told};
 use std::alloc::Global;
 
 /// The journal that a script determines: with its pickers, and no disk that fails.

@@ -1,4 +1,4 @@
-use Rattle.dds_world.specs.Trace.{run_of}
+use Rattle.dds_cluster.specs.Trace.{run_of}
 use Rattle.dds_net.proofs.Runs.{sized-run}
 use Rattle.dds_net.proofs.Steps.{step-moves}
 use Rattle.dds_net.specs.Net.{sizes_of}
