@@ -6,3 +6,4 @@ pub mod Tells
 pub mod BrickTells
 pub mod OrderTells
 pub mod LetterTells
+pub mod Worked

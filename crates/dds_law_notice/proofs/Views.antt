@@ -16,7 +16,7 @@ use Rattle.dds_base.specs.declared.op.Order.{Order}
 use Rattle.dds_call_rows.specs.Library.{CallTurn, begin}
 use Rattle.dds_core.proofs.CallDoes.{ArePushes, Begins, CallDoes, aborts, call-does, commits, gets, looks, new-begins, prepares, tries}
 use Rattle.dds_core.proofs.CallTurns.{library-keeps}
-use Rattle.dds_core.proofs.LetterTells.{heard, letter-tells}
+use Rattle.dds_core.proofs.LetterTells.{Says, heard, letter-tells}
 use Rattle.dds_core.proofs.Lists.{all-append}
 use Rattle.dds_core.proofs.OrderTells.{order-silent, order-tells}
 use Rattle.dds_core.proofs.Tells.{NoNotices, Who, is_notice, no-notices, who}
@@ -73,10 +73,10 @@ brick-heard s from letter.Notice = refl
 brick-heard s from other = refl
 
 pub brick-takes : (s : BrickState) (from : NodeNo) (l : Letter) → s.stopped ≡ false → Takes from l (a_brick s) (a_brick (live_brick_turn s from l).state) (live_brick_turn s from l).out.letters
-brick-takes s from l live = let t = letter-tells s from l in record { live = live; after = ap of_who t.same ∙ brick-heard s from l; silent = no-notices _ _ t.letters }
+brick-takes s from l live = let t = letter-tells s from l in record { live = live; after = ap of_who t.same ∙ brick-heard s from l; silent = no-notices (Says s from l) _ t.letters }
 
 pub brick-does : (s : BrickState) (o : Order) → Does (a_brick s) (a_brick (brick_input s o).state) (brick_input s o).out.letters
-brick-does s o = let t = order-tells {L = λ to l. Unit {0}} s o in record { after = ap of_who t.same; silent = no-notices _ _ t.letters; still = order-silent s o }
+brick-does s o = let t = order-tells {L = λ to m. ⊥} s o in record { after = ap of_who t.same; silent = no-notices (λ to m. ⊥) _ t.letters; still = order-silent s o }
 
 -- a library's turn
 each-silent : (ns : List NodeNo) (l : Letter) → is_notice l ≡ false → NoNotices (to_each ns l)
