@@ -25,31 +25,40 @@ use Rattle.dds_core.proofs.Tells.{Given, Sent, Tells, sent-each, tells-from, tel
 -- The rows of a brick for calls, for leaves that it is told, and to resolve transactions.
 
 module _ {L : Sent} {M : Given} where
-  got : (s : BrickState) (from : NodeNo) (txn : Txn) (key : ℕ) (r : Option Refusal) → L from (letter.Got txn (calls.answer_of (get s.pairs key))) → ((why : Refusal) → r ≡ Some why → L from (letter.Got txn (answer.Refused why))) → Tells L M s (calls.got s from txn key r)
+  got : (s : BrickState) (from : NodeNo) (txn : Txn) (key : ℕ) (r : Option Refusal) → L from (letter.Got txn (calls.answer_of (get s.pairs key)))
+      → ((why : Refusal) → r ≡ Some why → L from (letter.Got txn (answer.Refused why))) → Tells L M s (calls.got s from txn key r)
   got s from txn key None h k = record { same = refl; letters = (h, tt); replies = tt }
   got s from txn key (Some r) h k = tells-sends s s _ refl (k r refl, tt)
 
-  pub get_row : (s : BrickState) (from : NodeNo) (txn : Txn) (key : ℕ) (name : Name) (stamp : StampOf) → L from (letter.Got txn (calls.answer_of (get s.pairs key))) → ((why : Refusal) → get_refusal s key name stamp ≡ Some why → L from (letter.Got txn (answer.Refused why))) → Tells L M s (calls.get_row s from txn key name stamp)
+  pub get_row : (s : BrickState) (from : NodeNo) (txn : Txn) (key : ℕ) (name : Name) (stamp : StampOf)
+      → L from (letter.Got txn (calls.answer_of (get s.pairs key))) → ((why : Refusal) → get_refusal s key name stamp ≡ Some why
+      → L from (letter.Got txn (answer.Refused why))) → Tells L M s (calls.get_row s from txn key name stamp)
   get_row s from txn key name stamp h k = got s from txn key (get_refusal s key name stamp) h k
 
-  voted : (s : BrickState) (from : NodeNo) (p : Pending) (d : Option Denial) → L from (letter.Vote p.txn ballot.Yes) → ((why : Denial) → d ≡ Some why → L from (letter.Vote p.txn (ballot.No why))) → Tells L M s (calls.voted s from p d)
+  voted : (s : BrickState) (from : NodeNo) (p : Pending) (d : Option Denial) → L from (letter.Vote p.txn ballot.Yes)
+      → ((why : Denial) → d ≡ Some why → L from (letter.Vote p.txn (ballot.No why))) → Tells L M s (calls.voted s from p d)
   voted s from p None h k = record { same = refl; letters = (h, tt); replies = tt }
   voted s from p (Some d) h k = tells-sends s s _ refl (k d refl, tt)
 
-  pub prepare_row : (s : BrickState) (from : NodeNo) (p : Pending) (below : ℕ) (name : Name) (stamp : StampOf) → L from (letter.Vote p.txn ballot.Yes) → ((why : Denial) → update_denial s p.op name stamp ≡ Some why → L from (letter.Vote p.txn (ballot.No why))) → Tells L M s (calls.prepare_row s from p below name stamp)
-  prepare_row s from p below name stamp h k = let v = voted (calls.trim s p.txn.library below) from p (update_denial s p.op name stamp) h k in record { same = v.same; letters = v.letters; replies = v.replies }
+  pub prepare_row : (s : BrickState) (from : NodeNo) (p : Pending) (below : ℕ) (name : Name) (stamp : StampOf) → L from (letter.Vote p.txn ballot.Yes)
+      → ((why : Denial) → update_denial s p.op name stamp ≡ Some why → L from (letter.Vote p.txn (ballot.No why)))
+      → Tells L M s (calls.prepare_row s from p below name stamp)
+  prepare_row s from p below name stamp h k = let v = voted (calls.trim s p.txn.library below) from p
+      (update_denial s p.op name stamp) h k in record { same = v.same; letters = v.letters; replies = v.replies }
 
   applied : (s u : BrickState) (p : Pending) → who u ≡ who s → Tells L M s (calls.applied u p)
   applied s u p e = record { same = e; letters = tt; replies = tt }
 
   commit_found : (s u : BrickState) (from : NodeNo) (p : Option Pending) → who u ≡ who s → Tells L M s (calls.commit_found u from p)
   commit_found s u from None e = tells-still s u e
-  commit_found s u from (Some p) e = tells-then s (calls.applied u p) _ (applied s u p e) (λ v. tells-sends v v ((from, letter.Applied p.txn (calls.flag_at u p)) ∷ []) refl (tt, tt))
+  commit_found s u from (Some p) e = tells-then s (calls.applied u p) _ (applied s u p e)
+      (λ v. tells-sends v v ((from, letter.Applied p.txn (calls.flag_at u p)) ∷ []) refl (tt, tt))
 
   pub commit_row : (s : BrickState) (from : NodeNo) (txn : Txn) → Tells L M s (calls.commit_row s from txn)
   commit_row s from txn = commit_found s (calls.dropped s txn) from _ refl
 
-  aborting : (s u : BrickState) (from : NodeNo) (txn : Txn) (p : Option Pending) → who u ≡ who s → Tells L M s (sends (calls.aborted u p) ((from, letter.Aborted txn) ∷ []))
+  aborting : (s u : BrickState) (from : NodeNo) (txn : Txn) (p : Option Pending) → who u ≡ who s
+      → Tells L M s (sends (calls.aborted u p) ((from, letter.Aborted txn) ∷ []))
   aborting s u from txn None e = tells-sends s u _ e (tt, tt)
   aborting s u from txn (Some p) e = record { same = e; letters = (tt, tt); replies = tt }
 
@@ -85,13 +94,15 @@ module _ {L : Sent} {M : Given} where
   outcome_row s txn commit = settled s (calls.dropped s txn) commit _ refl
 
   decides : (s : BrickState) (r : Resolving) → Tells L M s (resolution.decides s r)
-  decides s r = tells-then s (resolution.outcome_row s r.txn (resolution.verdict r)) _ (outcome_row s r.txn (resolution.verdict r)) (λ u. tells-sends u u _ refl (sent-each L (unknown_others r.list u.number u.known) (letter.Outcome r.txn (resolution.verdict r)) (λ n. tt)))
+  decides s r = tells-then s (resolution.outcome_row s r.txn (resolution.verdict r)) _ (outcome_row s r.txn (resolution.verdict r))
+      (λ u. tells-sends u u _ refl (sent-each L (unknown_others r.list u.number u.known) (letter.Outcome r.txn (resolution.verdict r)) (λ n. tt)))
 
   resolves_on : (s : BrickState) (r : Resolving) → Tells L M s (resolution.resolves_on s r)
   resolves_on s r = tells-if _ (decides s r) (tells-still s _ refl)
 
   pub resolve : (s : BrickState) (txn : Txn) (list : List ℕ) → Tells L M s (resolution.resolve s txn list)
-  resolve s txn list = tells-then s _ _ (tells-sends s s _ refl (sent-each L (unknown_others list s.number s.known) (letter.Query txn list) (λ n. tt))) (λ u. resolves_on u (resolution.started s txn list))
+  resolve s txn list = tells-then s _ _ (tells-sends s s _ refl (sent-each L (unknown_others list s.number s.known) (letter.Query txn list) (λ n. tt)))
+      (λ u. resolves_on u (resolution.started s txn list))
 
   pub help_row : (s : BrickState) (from : NodeNo) (txn : Txn) (list : List ℕ) → Tells L M s (resolution.help_row s from txn list)
   help_row s from txn list = tells-if _ (tells-if _ (tells-still s s refl) (resolve s txn list)) (tells-still s _ refl)

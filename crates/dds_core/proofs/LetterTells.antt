@@ -94,9 +94,14 @@ RefusesNothing other = Unit {0}
 -- what a brick's answer to a letter says: it refuses nothing, or what was refused was refused by the brick's test
 pub data Says (s : BrickState) (from : NodeNo) (l : Letter) (to : NodeNo) (sent : Letter) : Type 0 where
   grants : RefusesNothing sent → Says s from l to sent
-  get_refused : (txn : Txn) (caller : CallerNo) (call : CallNo) (key : ℕ) (name : Name) (stamp : StampOf) (why : Refusal) → l ≡ letter.Get txn caller call key name stamp → sent ≡ letter.Got txn (answer.Refused why) → get_refusal s key name stamp ≡ Some why → Says s from l to sent
-  denied : (txn : Txn) (caller : CallerNo) (call : CallNo) (below : ℕ) (name : Name) (stamp : StampOf) (list : List NodeNo) (o : Op) (why : Denial) → l ≡ letter.Prepare txn caller call below name stamp list o → sent ≡ letter.Vote txn (ballot.No why) → update_denial s o name stamp ≡ Some why → Says s from l to sent
-  lease_refused : (number : ℕ) (what : Wanted) (why : Refusal) → l ≡ letter.Lease number what → sent ≡ letter.LeaseRefused number why → to ≡ from → lease_denial s what ≡ Some why → Says s from l to sent
+  get_refused : (txn : Txn) (caller : CallerNo) (call : CallNo) (key : ℕ) (name : Name) (stamp : StampOf) (why : Refusal)
+      → l ≡ letter.Get txn caller call key name stamp → sent ≡ letter.Got txn (answer.Refused why) → get_refusal s key name stamp ≡ Some why
+      → Says s from l to sent
+  denied : (txn : Txn) (caller : CallerNo) (call : CallNo) (below : ℕ) (name : Name) (stamp : StampOf) (list : List NodeNo) (o : Op) (why : Denial)
+      → l ≡ letter.Prepare txn caller call below name stamp list o → sent ≡ letter.Vote txn (ballot.No why) → update_denial s o name stamp ≡ Some why
+      → Says s from l to sent
+  lease_refused : (number : ℕ) (what : Wanted) (why : Refusal) → l ≡ letter.Lease number what → sent ≡ letter.LeaseRefused number why → to ≡ from
+      → lease_denial s what ≡ Some why → Says s from l to sent
 
 -- what the open order may be answered at a letter: a member refused its lease
 pub record MetAt (s : BrickState) (from : NodeNo) (l : Letter) (m : Met) : Type 0 where
@@ -118,8 +123,11 @@ heard s from letter.Notice = notices.learns s from
 heard s from other = s
 
 pub letter-tells : (s : BrickState) (from : NodeNo) (l : Letter) → Tells (Says s from l) (MetAt s from l) (heard s from l) (live_brick_turn s from l)
-letter-tells s from (letter.Get txn caller call key name stamp) = rows.get_row s from txn key name stamp (grants (found txn (get s.pairs key))) (λ why e. get_refused txn caller call key name stamp why refl refl e)
-letter-tells s from (letter.Prepare txn caller call below name stamp list op) = rows.prepare_row s from (record { txn = txn; caller = caller; call = call; op = op; list = list }) below name stamp (grants tt) (λ why e. denied txn caller call below name stamp list op why refl refl e)
+letter-tells s from (letter.Get txn caller call key name stamp) =
+    rows.get_row s from txn key name stamp (grants (found txn (get s.pairs key))) (λ why e. get_refused txn caller call key name stamp why refl refl e)
+letter-tells s from (letter.Prepare txn caller call below name stamp list op) =
+    rows.prepare_row s from (record { txn = txn; caller = caller; call = call; op = op; list = list }) below name stamp (grants tt)
+    (λ why e. denied txn caller call below name stamp list op why refl refl e)
 letter-tells s from (letter.Commit txn) = rows.commit_row s from txn
 letter-tells s from (letter.Abort txn) = rows.abort_row s from txn
 letter-tells s from (letter.Push leaf) = rows.push_row s leaf
@@ -130,7 +138,8 @@ letter-tells s from (letter.Status txn status) = rows.all_hear s from (news.Told
 letter-tells s from (letter.Outcome txn commit) = rows.outcome_row s txn commit
 letter-tells s from (letter.Lease number what) = orders.lease_row s from number what (λ why e. lease_refused number what why refl refl refl e)
 letter-tells s from (letter.Granted number leaf) = orders.granted_row s from number leaf
-letter-tells s from (letter.LeaseRefused number why) = orders.lease_refused_row s from number why (λ o e k. record { number = number; why = why; is = refl; met = refl; order = o; there = e; same = k })
+letter-tells s from (letter.LeaseRefused number why) =
+    orders.lease_refused_row s from number why (λ o e k. record { number = number; why = why; is = refl; met = refl; order = o; there = e; same = k })
 letter-tells s from (letter.Release number name) = orders.release_row s from name
 letter-tells s from (letter.CopyAsk number name after) = orders.copy_ask_row s from number name after
 letter-tells s from (letter.CopyPart number last pairs) = orders.copy_part_row s from number last pairs

@@ -49,13 +49,16 @@ module _ {L : Sent} {M : Given} where
   granted s from order name None = tells-still s s refl
   granted s from order name (Some leaf) = record { same = refl; letters = (tt, tt); replies = tt }
 
-  lease_answered : (s : BrickState) (from : NodeNo) (order : ℕ) (name : Name) (r : Option Refusal) → ((why : Refusal) → r ≡ Some why → L from (letter.LeaseRefused order why)) → Tells L M s (orders.lease_answered s from order name r)
+  lease_answered : (s : BrickState) (from : NodeNo) (order : ℕ) (name : Name) (r : Option Refusal)
+      → ((why : Refusal) → r ≡ Some why → L from (letter.LeaseRefused order why)) → Tells L M s (orders.lease_answered s from order name r)
   lease_answered s from order name None h = granted s from order name _
   lease_answered s from order name (Some r) h = record { same = refl; letters = (h r refl, tt); replies = tt }
 
-  pub lease_row : (s : BrickState) (from : NodeNo) (order : ℕ) (what : Wanted) → ((why : Refusal) → lease_denial s what ≡ Some why → L from (letter.LeaseRefused order why)) → Tells L M s (orders.lease_row s from order what)
+  pub lease_row : (s : BrickState) (from : NodeNo) (order : ℕ) (what : Wanted) →
+      ((why : Refusal) → lease_denial s what ≡ Some why → L from (letter.LeaseRefused order why)) → Tells L M s (orders.lease_row s from order what)
   lease_row s from order (wanted.Name name) h = lease_answered s from order name (lease_refusal s name None) h
-  lease_row s from order (wanted.Leaf leaf) h = tells-from s (takes.take s leaf) _ (take-same s leaf) (lease_answered (takes.take s leaf) from order leaf.name (lease_refusal (takes.take s leaf) leaf.name (Some leaf.stamp)) h)
+  lease_row s from order (wanted.Leaf leaf) h = tells-from s (takes.take s leaf) _ (take-same s leaf)
+      (lease_answered (takes.take s leaf) from order leaf.name (lease_refusal (takes.take s leaf) leaf.name (Some leaf.stamp)) h)
 
   pub release_row : (s : BrickState) (from : NodeNo) (name : Name) → Tells L M s (orders.release_row s from name)
   release_row s from name = record { same = refl; letters = tt; replies = tt }
@@ -65,7 +68,8 @@ module _ {L : Sent} {M : Given} where
 
   installed_over : (s : BrickState) (from : NodeNo) (order : ℕ) (leaf : Leaf) (own : Option Leaf) → Tells L M s (orders.installed_over s from order leaf own)
   installed_over s from order leaf None = tells-still s s refl
-  installed_over s from order leaf (Some own) = tells-if _ (tells-sends s (record s { leaves = takes.replaced s.leaves own leaf }) _ refl (tt, tt)) (tells-still s s refl)
+  installed_over s from order leaf (Some own) = tells-if _ (tells-sends s (record s { leaves = takes.replaced s.leaves own leaf }) _ refl (tt, tt))
+      (tells-still s s refl)
 
   pub install_row : (s : BrickState) (from : NodeNo) (order : ℕ) (leaf : Leaf) → Tells L M s (orders.install_row s from order leaf)
   install_row s from order leaf = tells-if _ (installed_over s from order leaf _) (tells-still s s refl)
@@ -75,9 +79,13 @@ module _ {L : Sent} {M : Given} where
   answers s reply h = record { same = refl; letters = tt; replies = (h, tt) }
 
   -- it is over, and its leases are given back; the brick may serve other leaves from here on
-  closes : (s u : BrickState) (o : OpenOrder) (b : Bool) (nodes : List NodeNo) (reply : OrderReply) → who u ≡ who s → GivesOrder M reply → Tells L M s (and_then (sends (record (if b then u else orders.releasing u o.name u.number) { order = None }) (to_each nodes (letter.Release o.number o.name))) (λ t. own_order.answers t reply))
-  closes s u o true nodes reply e h = tells-then s _ _ (tells-sends s (record u { order = None }) _ e (sent-each L nodes (letter.Release o.number o.name) (λ n. tt))) (λ v. answers v reply h)
-  closes s u o false nodes reply e h = tells-then s _ _ (tells-sends s (record (orders.releasing u o.name u.number) { order = None }) _ e (sent-each L nodes (letter.Release o.number o.name) (λ n. tt))) (λ v. answers v reply h)
+  closes : (s u : BrickState) (o : OpenOrder) (b : Bool) (nodes : List NodeNo) (reply : OrderReply) → who u ≡ who s → GivesOrder M reply
+      → Tells L M s (and_then (sends (record (if b then u else orders.releasing u o.name u.number) { order = None })
+      (to_each nodes (letter.Release o.number o.name))) (λ t. own_order.answers t reply))
+  closes s u o true nodes reply e h = tells-then s _ _ (tells-sends s (record u { order = None }) _ e
+      (sent-each L nodes (letter.Release o.number o.name) (λ n. tt))) (λ v. answers v reply h)
+  closes s u o false nodes reply e h = tells-then s _ _ (tells-sends s (record (orders.releasing u o.name u.number) { order = None }) _ e
+      (sent-each L nodes (letter.Release o.number o.name) (λ n. tt))) (λ v. answers v reply h)
 
   pub ends : (s : BrickState) (o : OpenOrder) (reply : OrderReply) → GivesOrder M reply → Tells L M s (own_order.ends s o reply)
   ends s o reply h = closes s s o _ (unknown o.asked s.known) reply refl h
@@ -115,19 +123,26 @@ module _ {L : Sent} {M : Given} where
 
   -- the orders themselves
   join_order : (s : BrickState) (name : Name) (via : NodeNo) → Tells L M s (own_order.join_order s name via)
-  join_order s name via = tells-if _ (answers s answered.Stopped tt) (tells-if _ (answers s answered.OrderOpen tt) (tells-if _ (answers s answered.AlreadyThere tt) (tells-if _ (answers s answered.NoSource tt) (tells-sends s _ _ refl (tt, tt)))))
+  join_order s name via = tells-if _ (answers s answered.Stopped tt) (tells-if _ (answers s answered.OrderOpen tt)
+      (tells-if _ (answers s answered.AlreadyThere tt) (tells-if _ (answers s answered.NoSource tt) (tells-sends s _ _ refl (tt, tt)))))
 
   split_opens : (s : BrickState) (leaf : Leaf) → Tells L M s (own_order.split_opens s leaf)
-  split_opens s leaf = tells-then s _ _ (tells-sends s (record (orders.leasing s leaf.name s.number) { orders = s.orders + 1 }) _ refl (sent-each L (unknown_others leaf.list s.number s.known) (letter.Lease s.orders (wanted.Leaf leaf)) (λ n. tt))) (λ u. leases_on u (own_order.new_split s leaf))
+  split_opens s leaf = tells-then s _ _ (tells-sends s (record (orders.leasing s leaf.name s.number) { orders = s.orders + 1 }) _ refl
+      (sent-each L (unknown_others leaf.list s.number s.known) (letter.Lease s.orders (wanted.Leaf leaf)) (λ n. tt)))
+      (λ u. leases_on u (own_order.new_split s leaf))
 
 -- what a split met at its own brick: a lease or a locked key stands in its way
 abbrev pub split_refusal : BrickState → Name → Option Refusal
 split_refusal s name = first_some (when (is_some (leased s.locks.leases name)) refusal.Lease) (when (any_under s.locks.pending name) refusal.Lock)
 
 abbrev pub SplitMet : BrickState → Name → Given
-SplitMet s name m = (leaf : Leaf) × (why : Refusal) × (get s.leaves name ≡ Some leaf) × (split_refusal s leaf.name ≡ Some why) × (own_order.met_of why s.number ≡ m)
+SplitMet s name m =
+    (leaf : Leaf) × (why : Refusal) × (get s.leaves name ≡ Some leaf) × (split_refusal s leaf.name ≡ Some why) × (own_order.met_of why s.number ≡ m)
 
-split_free : {L : Sent} {M : Given} (s : BrickState) (leaf : Leaf) (a c : Bool) → (a ≡ true → M (met.Lease s.number)) → (a ≡ false → c ≡ true → M (met.Lock s.number)) → Tells L M s (if a then own_order.answers s (answered.Refused (met.Lease s.number)) else (if c then own_order.answers s (answered.Refused (met.Lock s.number)) else own_order.split_opens s leaf))
+split_free : {L : Sent} {M : Given} (s : BrickState) (leaf : Leaf) (a c : Bool) → (a ≡ true → M (met.Lease s.number))
+    → (a ≡ false → c ≡ true → M (met.Lock s.number))
+    → Tells L M s (if a then own_order.answers s (answered.Refused (met.Lease s.number)) else
+    (if c then own_order.answers s (answered.Refused (met.Lock s.number)) else own_order.split_opens s leaf))
 split_free s leaf true c h k = answers s (answered.Refused (met.Lease s.number)) (h refl)
 split_free s leaf false true h k = answers s (answered.Refused (met.Lock s.number)) (k refl refl)
 split_free s leaf false false h k = split_opens s leaf
@@ -145,9 +160,11 @@ split_leaf : {L : Sent} (s : BrickState) (name : Name) (leaf : Leaf) → get s.l
 split_leaf s name leaf is =
     let a = is_some (leased s.locks.leases leaf.name) in
     let c = any_under s.locks.pending leaf.name in
-    tells-if _ (answers s answered.Deepest tt) (tells-if _ (answers s answered.Worn tt) (split_free s leaf a c (λ e. (leaf, refusal.Lease, is, refused-lease a c e, refl)) (λ e h. (leaf, refusal.Lock, is, refused-lock a c e h, refl))))
+    tells-if _ (answers s answered.Deepest tt) (tells-if _ (answers s answered.Worn tt)
+    (split_free s leaf a c (λ e. (leaf, refusal.Lease, is, refused-lease a c e, refl)) (λ e h. (leaf, refusal.Lock, is, refused-lock a c e h, refl))))
 
-split_named : {L : Sent} (s : BrickState) (name : Name) (leaf : Option Leaf) → get s.leaves name ≡ leaf → Tells L (SplitMet s name) s (own_order.split_named s leaf)
+split_named : {L : Sent} (s : BrickState) (name : Name) (leaf : Option Leaf) → get s.leaves name ≡ leaf
+    → Tells L (SplitMet s name) s (own_order.split_named s leaf)
 split_named s name None is = answers s answered.NotServing tt
 split_named s name (Some leaf) is = split_leaf s name leaf is
 
@@ -168,20 +185,24 @@ order-silent s (the_order.Join brick name via) e = rw e refl
 order-silent s (the_order.Split brick name) e = rw e refl
 
 -- letters to the open order
-has-number : (number : ℕ) (test : OpenOrder → Bool) (o : Option OpenOrder) (x : OpenOrder) → own_order.is_at number test o ≡ true → o ≡ Some x → x.number ≡ number
+has-number : (number : ℕ) (test : OpenOrder → Bool) (o : Option OpenOrder) (x : OpenOrder) → own_order.is_at number test o ≡ true → o ≡ Some x
+    → x.number ≡ number
 has-number number test None x h e = cc
 has-number number test (Some o) x h e = let is : o ≡ x = cc in eqb-true x.number number (and_parts (x.number == number) (test x) (rw is at h)).0
 
 module _ {L : Sent} {M : Given} where
-  pub with_order : (s : BrickState) (row : BrickState → OpenOrder → BrickTurn) (o : Option OpenOrder) → ((t : BrickState) (x : OpenOrder) → o ≡ Some x → Tells L M t (row t x)) → Tells L M s (own_order.with_order s row o)
+  pub with_order : (s : BrickState) (row : BrickState → OpenOrder → BrickTurn) (o : Option OpenOrder)
+      → ((t : BrickState) (x : OpenOrder) → o ≡ Some x → Tells L M t (row t x)) → Tells L M s (own_order.with_order s row o)
   with_order s row None h = tells-still s s refl
   with_order s row (Some o) h = tells-from s (record s { order = None }) _ refl (h (record s { order = None }) o refl)
 
-  at_order : (s : BrickState) (number : ℕ) (test : OpenOrder → Bool) (row : BrickState → OpenOrder → BrickTurn) → ((t : BrickState) (x : OpenOrder) → s.order ≡ Some x → x.number ≡ number → Tells L M t (row t x)) → Tells L M s (own_order.at_order s number test row)
+  at_order : (s : BrickState) (number : ℕ) (test : OpenOrder → Bool) (row : BrickState → OpenOrder → BrickTurn)
+      → ((t : BrickState) (x : OpenOrder) → s.order ≡ Some x → x.number ≡ number → Tells L M t (row t x)) → Tells L M s (own_order.at_order s number test row)
   at_order s number test row h = tells-when _ (λ k. with_order s row s.order (λ t x e. h t x e (has-number number test s.order x k e))) (tells-still s s refl)
 
   fixed : (s : BrickState) (o : OpenOrder) (from : NodeNo) (leaf : Leaf) → Tells L M s (own_order.fixed s o from leaf)
-  fixed s o from leaf = tells-then s _ _ (tells-sends s s _ refl (sent-each L (unknown_others leaf.list from s.known) (letter.Lease o.number (wanted.Leaf leaf)) (λ n. tt))) (λ u. leases_on u (own_order.widened s o from leaf))
+  fixed s o from leaf = tells-then s _ _ (tells-sends s s _ refl (sent-each L (unknown_others leaf.list from s.known) (letter.Lease o.number (wanted.Leaf leaf))
+      (λ n. tt))) (λ u. leases_on u (own_order.widened s o from leaf))
 
   fixes : (s : BrickState) (o : OpenOrder) (from : NodeNo) (leaf : Leaf) → Tells L M s (own_order.fixes s o from leaf)
   fixes s o from leaf = tells-if _ (ends s o answered.Worn tt) (tells-if _ (ends s o answered.GroupFull tt) (fixed s o from leaf))
@@ -197,7 +218,8 @@ module _ {L : Sent} {M : Given} where
   pub granted_row : (s : BrickState) (from : NodeNo) (number : ℕ) (leaf : Leaf) → Tells L M s (own_order.granted_row s from number leaf)
   granted_row s from number leaf = at_order s number _ _ (λ t o e k. grants t (own_order.with_grant o from) from leaf o.task)
 
-  pub lease_refused_row : (s : BrickState) (from : NodeNo) (number : ℕ) (r : Refusal) → ((o : OpenOrder) → s.order ≡ Some o → o.number ≡ number → M (own_order.met_of r from)) → Tells L M s (own_order.lease_refused_row s from number r)
+  pub lease_refused_row : (s : BrickState) (from : NodeNo) (number : ℕ) (r : Refusal)
+      → ((o : OpenOrder) → s.order ≡ Some o → o.number ≡ number → M (own_order.met_of r from)) → Tells L M s (own_order.lease_refused_row s from number r)
   lease_refused_row s from number r h = at_order s number _ _ (λ t o e k. ends t o (answered.Refused (own_order.met_of r from)) (h o e k))
 
   copied_all : (s : BrickState) (o : OpenOrder) (leaf : Option Leaf) → Tells L M s (own_order.copied_all s o leaf)
@@ -208,7 +230,8 @@ module _ {L : Sent} {M : Given} where
   copied_on s o source true = copied_all s o o.leaf
   copied_on s o source false = record { same = refl; letters = (tt, tt); replies = tt }
 
-  pub copy_part_row : (s : BrickState) (from : NodeNo) (number : ℕ) (last : Bool) (pairs : List Pair) → Tells L M s (own_order.copy_part_row s from number last pairs)
+  pub copy_part_row : (s : BrickState) (from : NodeNo) (number : ℕ) (last : Bool) (pairs : List Pair)
+      → Tells L M s (own_order.copy_part_row s from number last pairs)
   copy_part_row s from number last pairs = at_order s number _ _ (λ t o e k. copied_on t (record o { copied = o.copied ++ pairs }) from last)
 
   pub installs_on : (s : BrickState) (o : OpenOrder) (made : Leaf) → Tells L M s (own_order.installs_on s o made)

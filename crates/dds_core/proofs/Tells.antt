@@ -70,16 +70,23 @@ pub tells-sends : {L : Sent} {M : Given} (s u : BrickState) (ls : List (NodeNo �
 tells-sends s u ls e h = record { same = e; letters = h; replies = tt }
 
 -- turns put together
-pub tells-then : {L : Sent} {M : Given} (s : BrickState) (t : BrickTurn) (row : BrickState → BrickTurn) → Tells L M s t → ((u : BrickState) → Tells L M u (row u)) → Tells L M s (and_then t row)
+pub tells-then : {L : Sent} {M : Given} (s : BrickState) (t : BrickTurn) (row : BrickState → BrickTurn) → Tells L M s t
+    → ((u : BrickState) → Tells L M u (row u)) → Tells L M s (and_then t row)
 tells-then s t row h f =
     let g = f t.state in
-    record { same = g.same ∙ h.same; letters = all-append _ t.out.letters (row t.state).out.letters h.letters g.letters; replies = all-append _ t.out.replies (row t.state).out.replies h.replies g.replies }
+    record {
+      same = g.same ∙ h.same;
+      letters = all-append _ t.out.letters (row t.state).out.letters h.letters g.letters;
+      replies = all-append _ t.out.replies
+          (row t.state).out.replies h.replies g.replies;
+    }
 
 pub tells-if : {L : Sent} {M : Given} {s : BrickState} (c : Bool) {t u : BrickTurn} → Tells L M s t → Tells L M s u → Tells L M s (if c then t else u)
 tells-if true h g = h
 tells-if false h g = g
 
-pub tells-when : {L : Sent} {M : Given} {s : BrickState} (c : Bool) {t u : BrickTurn} → (c ≡ true → Tells L M s t) → Tells L M s u → Tells L M s (if c then t else u)
+pub tells-when : {L : Sent} {M : Given} {s : BrickState} (c : Bool) {t u : BrickTurn} → (c ≡ true → Tells L M s t) → Tells L M s u
+    → Tells L M s (if c then t else u)
 tells-when true h g = h refl
 tells-when false h g = g
 

@@ -49,9 +49,11 @@ heard-notice : (deaf : Bool) (l : Letter) → is_notice l ≡ true → (known_af
 heard-notice true l e = refl
 heard-notice false l e = ap (λ c. (if c then true else false) || false) e
 
-told-takes : (deaf : Bool) (l : Letter) (c front : List Letter) → l ∷ c ≡ front ++ letter.Notice ∷ [] → Silent front → Link deaf c true (known_after deaf l false)
+told-takes : (deaf : Bool) (l : Letter) (c front : List Letter) → l ∷ c ≡ front ++ letter.Notice ∷ [] → Silent front
+    → Link deaf c true (known_after deaf l false)
 told-takes deaf l c [] e s = over (known_after deaf l false) (ap tail e) (heard-notice deaf l (ap (λ x. is_notice (head l x)) e))
-told-takes deaf l c (x ∷ front) e s = subst (Link deaf c true) (sym (not-notice deaf l false (ap (λ y. is_notice (head l y)) e ∙ s.0))) (told front (ap tail e) s.1)
+told-takes deaf l c (x ∷ front) e s =
+    subst (Link deaf c true) (sym (not-notice deaf l false (ap (λ y. is_notice (head l y)) e ∙ s.0))) (told front (ap tail e) s.1)
 
 pub link-takes : {stopped known deaf : Bool} (l : Letter) (c : List Letter) → Link deaf (l ∷ c) stopped known → Link deaf c stopped (known_after deaf l known)
 link-takes {deaf = deaf} l c (lives s) = subst (Link deaf c false) (sym (not-notice deaf l false s.0)) (lives s.1)
@@ -59,13 +61,15 @@ link-takes {deaf = deaf} l c (told front e s) = told-takes deaf l c front e s
 link-takes l c (over known e k) = cc
 
 -- the sender goes on, with nothing where it has stopped
-pub link-more : {stopped known deaf : Bool} (c new : List Letter) → Silent new → (stopped ≡ true → new ≡ []) → Link deaf c stopped known → Link deaf (c ++ new) stopped known
+pub link-more : {stopped known deaf : Bool} (c new : List Letter) → Silent new → (stopped ≡ true → new ≡ []) → Link deaf c stopped known
+    → Link deaf (c ++ new) stopped known
 link-more c new n e (lives s) = lives (all-append _ c new s n)
 link-more c new n e (told front is s) = told front (ap (λ x. c ++ x) (e refl) ∙ append-nil c ∙ is) s
 link-more c new n e (over known is k) = over known (ap (λ x. c ++ x) (e refl) ∙ append-nil c ∙ is) k
 
 -- the receiver stops, and forgets whom it knew or doesn't
-pub link-deaf : {stopped known deaf : Bool} (known' : Bool) (c : List Letter) → (known ≡ false → known' ≡ false) → Link deaf c stopped known → Link true c stopped known'
+pub link-deaf : {stopped known deaf : Bool} (known' : Bool) (c : List Letter) → (known ≡ false → known' ≡ false) → Link deaf c stopped known
+    → Link true c stopped known'
 link-deaf known' c f (lives s) = subst (Link true c false) (sym (f refl)) (lives s)
 link-deaf known' c f (told front e s) = subst (Link true c true) (sym (f refl)) (told front e s)
 link-deaf known' c f (over known e k) = over known' e (or_right known' true refl)

@@ -72,11 +72,14 @@ brick-heard : (s : BrickState) (from : NodeNo) (l : Letter) → of_who (who (hea
 brick-heard s from letter.Notice = refl
 brick-heard s from other = refl
 
-pub brick-takes : (s : BrickState) (from : NodeNo) (l : Letter) → s.stopped ≡ false → Takes from l (a_brick s) (a_brick (live_brick_turn s from l).state) (live_brick_turn s from l).out.letters
-brick-takes s from l live = let t = letter-tells s from l in record { live = live; after = ap of_who t.same ∙ brick-heard s from l; silent = no-notices (Says s from l) _ t.letters }
+pub brick-takes : (s : BrickState) (from : NodeNo) (l : Letter) → s.stopped ≡ false
+    → Takes from l (a_brick s) (a_brick (live_brick_turn s from l).state) (live_brick_turn s from l).out.letters
+brick-takes s from l live =
+    let t = letter-tells s from l in record { live = live; after = ap of_who t.same ∙ brick-heard s from l; silent = no-notices (Says s from l) _ t.letters }
 
 pub brick-does : (s : BrickState) (o : Order) → Does (a_brick s) (a_brick (brick_input s o).state) (brick_input s o).out.letters
-brick-does s o = let t = order-tells {L = λ to m. ⊥} s o in record { after = ap of_who t.same; silent = no-notices (λ to m. ⊥) _ t.letters; still = order-silent s o }
+brick-does s o =
+    let t = order-tells {L = λ to m. ⊥} s o in record { after = ap of_who t.same; silent = no-notices (λ to m. ⊥) _ t.letters; still = order-silent s o }
 
 -- a library's turn
 each-silent : (ns : List NodeNo) (l : Letter) → is_notice l ≡ false → NoNotices (to_each ns l)
@@ -105,27 +108,40 @@ record IsSilent (v : View) (s : LibraryState) (out : CoreTurn) : Type 0 where
   same : view (a_library s) ≡ v
   letters : NoNotices out.letters
 
-library-heard : (s : LibraryState) (from : NodeNo) (l : Letter) → IsSilent (learns from l (view (a_library s))) (Rattle.dds_core.proofs.CallTurns.heard s from l) no_out
+library-heard : (s : LibraryState) (from : NodeNo) (l : Letter) → IsSilent (learns from l (view (a_library s)))
+    (Rattle.dds_core.proofs.CallTurns.heard s from l) no_out
 library-heard s from letter.Notice = record { same = refl; letters = tt }
 library-heard s from other = record { same = refl; letters = tt }
 
-pub library-takes : (s : LibraryState) (from : NodeNo) (l : Letter) → s.stopped ≡ false → Takes from l (a_library s) (a_library (live_library_turn s from l).state) (live_library_turn s from l).out.letters
+pub library-takes : (s : LibraryState) (from : NodeNo) (l : Letter) → s.stopped ≡ false
+    → Takes from l (a_library s) (a_library (live_library_turn s from l).state) (live_library_turn s from l).out.letters
 library-takes s from l live =
     let v = learns from l (view (a_library s)) in
-    let k = library-keeps (IsSilent v) s from l (λ u out place c e w h. record { same = h.same; letters = all-append _ out.letters _ h.letters (call-silent _ (call-does _ c from l)) }) (library-heard s from l) in
+    let k = library-keeps (IsSilent v) s from l (λ u out place c e w h. record {
+      same = h.same;
+      letters = all-append _ out.letters _ h.letters
+          (call-silent _ (call-does _ c from l));
+    }) (library-heard s from l) in
     record { live = live; after = k.same; silent = k.letters }
 
-pub library-does : (s : LibraryState) (caller : CallerNo) (call : CallNo) (o : Op) → s.stopped ≡ false → Does (a_library s) (a_library (asked_turn s caller call o).state) (asked_turn s caller call o).out.letters
+pub library-does : (s : LibraryState) (caller : CallerNo) (call : CallNo) (o : Op) → s.stopped ≡ false
+    → Does (a_library s) (a_library (asked_turn s caller call o).state) (asked_turn s caller call o).out.letters
 library-does s caller call o live =
     let r = new_request caller call o in
-    record { after = refl; silent = begins-silent (begin (desk_of s s.calls) r) (new-begins (desk_of s s.calls) r); still = λ e. absurd (both_ways s.stopped live e) }
+    record {
+      after = refl;
+      silent = begins-silent (begin (desk_of s s.calls) r) (new-begins (desk_of s s.calls) r);
+      still = λ e. absurd
+          (both_ways s.stopped live e);
+    }
 
 -- whom a set has with a node more, and an empty one
 has-with : (s : NodeSet) (node other : ℕ) → node < 80 → has_node (with_node s node) other ≡ (other == node || has_node s other)
 has-with s node other h =
     elim (nat_lt node 64) as (λ b. nat_lt node 64 ≡ b → has_node (with_node s node) other ≡ (other == node || has_node s other)) [
       | true ↦ λ e. let low : node < 64 = grind (arith, nat_tests, e) in ap (λ t. has_node t other) (sym (with-brick s node low)) ∙ added-brick s node other low
-      | false ↦ λ e. let high : 64 ≤ node = grind (arith, nat_tests, e) in ap (λ t. has_node t other) (sym (with-library s node high h)) ∙ added-library s node other high h
+      | false ↦ λ e. let high : 64 ≤ node = grind (arith, nat_tests, e) in ap (λ t. has_node t other) (sym (with-library s node high h))
+          ∙ added-library s node other high h
     ] refl
 
 none-if : (n : ℕ) (c : Bool) → (if c then bit_at 0 n == 1 else bit_at 0 (n - 64) == 1) ≡ false

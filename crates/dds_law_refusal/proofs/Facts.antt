@@ -24,7 +24,7 @@ use Rattle.dds_cluster.specs.declared.step.Step.{Step}
 use Rattle.dds_net.proofs.Journals.{Grown, journal-keeps, net_of, next-event, place-of}
 use Rattle.dds_net.proofs.Opening.{IsNew, new_a_brick, new_a_library, no_node, start-channel, start-node}
 use Rattle.dds_net.proofs.Runs.{sized-run}
-use Rattle.dds_net.proofs.Steps.{library-node}
+use Rattle.dds_net.proofs.Nodes.{library-node}
 use Rattle.dds_net.proofs.Ways.{travels}
 use Rattle.dds_net.specs.Net.{Node, a_library, sizes_of}
 use Rattle.dds_law_refusal.proofs.Bricks.{ReplyOk}

@@ -25,7 +25,8 @@ landing-all : (P : Letter → Type 0) (c : Bool) (l : Letter) (ls : List Letter)
 landing-all P true l ls h k = (h, k)
 landing-all P false l ls h k = k
 
-pub gains-all : (P : Letter → Type 0) (z : Sizes) (b : ℕ) (ls : List (NodeNo × Letter)) → AllByRecursion (λ (p : NodeNo × Letter). P p.1) ls → AllByRecursion P (gains z ls b)
+pub gains-all : (P : Letter → Type 0) (z : Sizes) (b : ℕ) (ls : List (NodeNo × Letter)) → AllByRecursion (λ (p : NodeNo × Letter). P p.1) ls
+    → AllByRecursion P (gains z ls b)
 gains-all P z b ls h = when-all (is_in z b) (landing z b ls) (all ls h)
   where
     all : (ls : List (NodeNo × Letter)) → AllByRecursion (λ (p : NodeNo × Letter). P p.1) ls → AllByRecursion P (landing z b ls)
@@ -48,19 +49,26 @@ pub record Sends (P : Sent) (n : Net) (at : ℕ) (y : Node) (ls : List (NodeNo �
   pub later : (l : Letter) → P at (n.node at) l → P at y l
   pub new : AllByRecursion (λ (p : NodeNo × Letter). P at y p.1) ls
 
-pub takes-sent : (P : Sent) (z : Sizes) (n : Net) (at from : ℕ) (y : Node) (ls : List (NodeNo × Letter)) → Sends P n at y ls → AllSent P n → AllSent P (changed n (takes z n at from y ls))
+pub takes-sent : (P : Sent) (z : Sizes) (n : Net) (at from : ℕ) (y : Node) (ls : List (NodeNo × Letter)) → Sends P n at y ls → AllSent P n
+    → AllSent P (changed n (takes z n at from y ls))
 takes-sent P z n at from y ls s g =
-    let mine = (λ (b : ℕ). all-append (P at y) (without_first n at from at b) (gains z ls b) (rest-all (P at y) n at from at b (all-map (P at (n.node at)) (P at y) (n.channel at b) s.later (g at b))) (gains-all (P at y) z b ls s.new)) in
-    pairs-changed (λ a b x y c d. AllByRecursion (P a x) c) n (takes z n at from y ls) (record { own = mine at; from = λ b nb. mine b; to = λ a na. rest-all (P a (n.node a)) n at from a at (g a at) }) g
+    let mine = (λ (b : ℕ). all-append (P at y) (without_first n at from at b) (gains z ls b)
+    (rest-all (P at y) n at from at b (all-map (P at (n.node at)) (P at y) (n.channel at b) s.later (g at b))) (gains-all (P at y) z b ls s.new)) in
+    pairs-changed (λ a b x y c d. AllByRecursion (P a x) c) n (takes z n at from y ls)
+    (record { own = mine at; from = λ b nb. mine b; to = λ a na. rest-all (P a (n.node a)) n at from a at (g a at) }) g
 
-pub does-sent : (P : Sent) (z : Sizes) (n : Net) (at : ℕ) (y : Node) (ls : List (NodeNo × Letter)) → Sends P n at y ls → AllSent P n → AllSent P (changed n (does z n at y ls))
+pub does-sent : (P : Sent) (z : Sizes) (n : Net) (at : ℕ) (y : Node) (ls : List (NodeNo × Letter)) → Sends P n at y ls → AllSent P n
+    → AllSent P (changed n (does z n at y ls))
 does-sent P z n at y ls s g =
-    let mine = (λ (b : ℕ). all-append (P at y) (n.channel at b) (gains z ls b) (all-map (P at (n.node at)) (P at y) (n.channel at b) s.later (g at b)) (gains-all (P at y) z b ls s.new)) in
+    let mine = (λ (b : ℕ). all-append (P at y) (n.channel at b) (gains z ls b) (all-map (P at (n.node at)) (P at y) (n.channel at b) s.later (g at b))
+    (gains-all (P at y) z b ls s.new)) in
     pairs-changed (λ a b x y c d. AllByRecursion (P a x) c) n (does z n at y ls) (record { own = mine at; from = λ b nb. mine b; to = λ a na. g a at }) g
 
-pub stops-sent : (P : Sent) (z : Sizes) (n : Net) (at : ℕ) (y : Node) (left : ℕ → List Letter) → ((b : ℕ) → IsFront (left b) (n.channel at b)) → ((l : Letter) → P at (n.node at) l → P at y l) → P at y letter.Notice → AllSent P n → AllSent P (changed n (stops z n at y left))
+pub stops-sent : (P : Sent) (z : Sizes) (n : Net) (at : ℕ) (y : Node) (left : ℕ → List Letter) → ((b : ℕ) → IsFront (left b) (n.channel at b))
+    → ((l : Letter) → P at (n.node at) l → P at y l) → P at y letter.Notice → AllSent P n → AllSent P (changed n (stops z n at y left))
 stops-sent P z n at y left f later notice g =
-    let mine = (λ (b : ℕ). all-append (P at y) (left b) (notice_to z at b) (all-map (P at (n.node at)) (P at y) (left b) later (all-front (P at (n.node at)) (left b) (f b).gone (subst (AllByRecursion (P at (n.node at))) (f b).is (g at b)))) (told (is_in z b && not (b == at)))) in
+    let mine = (λ (b : ℕ). all-append (P at y) (left b) (notice_to z at b) (all-map (P at (n.node at)) (P at y) (left b) later
+    (all-front (P at (n.node at)) (left b) (f b).gone (subst (AllByRecursion (P at (n.node at))) (f b).is (g at b)))) (told (is_in z b && not (b == at)))) in
     pairs-changed (λ a b x y c d. AllByRecursion (P a x) c) n (stops z n at y left) (record { own = mine at; from = λ b nb. mine b; to = λ a na. g a at }) g
   where
     told : (c : Bool) → AllByRecursion (P at y) (when_in c (letter.Notice ∷ []))

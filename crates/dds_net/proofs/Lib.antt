@@ -6,6 +6,7 @@ pub mod Pairwise
 pub mod Projections
 pub mod Nets
 pub mod Stopping
+pub mod Stops
 pub mod Steps
 pub mod Runs
 pub mod Rungs

@@ -58,13 +58,16 @@ box-here : (b l p : ℕ) (w : World) (ms : List Message) → IsSized b l w → p
 box-here b l p w ms s hp = let n = s.outboxes in get_or-set_same w.outboxes p ms [] (omega (arith, n, hp))
 
 sized-box : (b l p : ℕ) (w : World) (ms : List Message) → IsSized b l w → IsSized b l (with_box w p ms)
-sized-box b l p w ms s = record { bricks = s.bricks; libraries = s.libraries; outboxes = length-set w.outboxes p ms ∙ s.outboxes; links = s.links; rows = s.rows }
+sized-box b l p w ms s =
+    record { bricks = s.bricks; libraries = s.libraries; outboxes = length-set w.outboxes p ms ∙ s.outboxes; links = s.links; rows = s.rows }
 
-posted-here : (b l p q j : ℕ) (w : World) (m : Message) (ms : List Message) → IsSized b l w → p < b + l → j < b + l → place_in b m.to ≡ q → box w p ≡ m ∷ ms → channel (posted w p q m ms) b p j ≡ channel w b p j
+posted-here : (b l p q j : ℕ) (w : World) (m : Message) (ms : List Message) → IsSized b l w → p < b + l → j < b + l → place_in b m.to ≡ q → box w p ≡ m ∷ ms
+    → channel (posted w p q m ms) b p j ≡ channel w b p j
 posted-here b l p q j w m ms s hp hj e is = elim (cases_eq j q) [
   | inl same ↦
       subst (λ k. channel (posted w p q m ms) b p k ≡ channel w b p k) (sym same)
-      (ap (λ x. x ++ sent b q (box (with_box w p ms) p)) (lane-here b l p q (with_box w p ms) (lane w p q ++ m ∷ []) (sized-box b l p w ms s) hp (subst (λ k. k < b + l) same hj))
+      (ap (λ x. x ++ sent b q (box (with_box w p ms) p)) (lane-here b l p q (with_box w p ms) (lane w p q ++ m ∷ []) (sized-box b l p w ms s) hp
+      (subst (λ k. k < b + l) same hj))
       ∙ ap (λ x. (lane w p q ++ m ∷ []) ++ sent b q x) (box-here b l p w ms s hp)
       ∙ append_assoc (lane w p q) (m ∷ []) (sent b q ms)
       ∙ ap (λ x. lane w p q ++ x) (sym (sent-here b q m ms e))
@@ -76,7 +79,8 @@ posted-here b l p q j w m ms s hp hj e is = elim (cases_eq j q) [
       ∙ ap (λ x. lane w p j ++ sent b j x) (sym is)
 ]
 
-pub posted-channel : (b l p q i j : ℕ) (w : World) (m : Message) (ms : List Message) → IsSized b l w → p < b + l → j < b + l → place_in b m.to ≡ q → box w p ≡ m ∷ ms → channel (posted w p q m ms) b i j ≡ channel w b i j
+pub posted-channel : (b l p q i j : ℕ) (w : World) (m : Message) (ms : List Message) → IsSized b l w → p < b + l → j < b + l → place_in b m.to ≡ q
+    → box w p ≡ m ∷ ms → channel (posted w p q m ms) b i j ≡ channel w b i j
 posted-channel b l p q i j w m ms s hp hj e is = elim (cases_eq i p) [
   | inl same ↦ subst (λ k. channel (posted w p q m ms) b k j ≡ channel w b k j) (sym same) (posted-here b l p q j w m ms s hp hj e is)
   | inr other ↦
@@ -90,7 +94,8 @@ pub record Popped (f n : ℕ) (m : Message) (c : List Message) (w u : World) : T
   pub now : lane u f n ≡ c
   pub lanes : (i j : ℕ) → ((i ≡ f) × (j ≡ n) → ⊥) → lane u i j ≡ lane w i j
 
-pub popped : (b l f n : ℕ) (w : World) (m : Message) (ms : List Message) → IsSized b l w → f < b + l → n < b + l → lane w f n ≡ m ∷ ms → Popped f n m ms w (with_lane w f n ms)
+pub popped : (b l f n : ℕ) (w : World) (m : Message) (ms : List Message) → IsSized b l w → f < b + l → n < b + l → lane w f n ≡ m ∷ ms
+    → Popped f n m ms w (with_lane w f n ms)
 popped b l f n w m ms s hf hn is =
     record {
       was = is;

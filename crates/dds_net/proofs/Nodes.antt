@@ -1,10 +1,13 @@
-use Rattle.std.proofs.Common.{◌≡◌, ℕ, zero, suc, ◌+◌, ◌-◌, ◌<◌, ◌≤◌, Bool, true, false, Some, None, List, [], ◌∷◌, length, refl, ap, arith}
+use Rattle.std.proofs.Common.{◌≡◌, ℕ, zero, suc, ◌+◌, ◌-◌, ◌<◌, ◌≤◌, Bool, true, false, Some, None, List, [], ◌∷◌, length, refl, ap, ◌∙◌, arith}
 use Rattle.std.proofs.lemmas.Bool.Decides.{nat_tests}
+use Rattle.std.proofs.lemmas.Option.{slice_get_within}
 use Rattle.std.specs.Prelude.{slice_get, slice_set, nat_lt, if◌then◌else◌}
 use Rattle.dds_states.specs.declared.brick_state.BrickState.{BrickState}
 use Rattle.dds_states.specs.declared.library_state.LibraryState.{LibraryState}
+use Rattle.dds_cluster.proofs.Sizes.{IsSized}
 use Rattle.dds_cluster.specs.World.{World, brick_at, is_node, library_at}
-use Rattle.dds_net.specs.Net.{place_in}
+use Rattle.dds_net.proofs.Places.{high-in, low-in}
+use Rattle.dds_net.specs.Net.{Sizes, a_brick, a_library, is_in, node_at, node_in, place_in}
 
 -- Bricks and libraries of a world by their numbers.
 
@@ -46,11 +49,13 @@ pub brick-place : (b n : ℕ) → n < 64 → place_in b n ≡ n
 brick-place b n low = let t : nat_lt n 64 ≡ true = grind (arith, nat_tests, low) in rw t refl
 
 -- a library has one from 64 on
-pub library-found : (w : World) (n : ℕ) (s : LibraryState) (low : Bool) → (if low then None else slice_get w.libraries (n - 64)) ≡ Some s → slice_get w.libraries (n - 64) ≡ Some s
+pub library-found : (w : World) (n : ℕ) (s : LibraryState) (low : Bool) → (if low then None else slice_get w.libraries (n - 64)) ≡ Some s
+    → slice_get w.libraries (n - 64) ≡ Some s
 library-found w n s true h = cc
 library-found w n s false h = h
 
-pub library-high : (w : World) (n : ℕ) (s : LibraryState) (low : Bool) → nat_lt n 64 ≡ low → (if low then None else slice_get w.libraries (n - 64)) ≡ Some s → 64 ≤ n
+pub library-high : (w : World) (n : ℕ) (s : LibraryState) (low : Bool) → nat_lt n 64 ≡ low → (if low then None else slice_get w.libraries (n - 64)) ≡ Some s
+    → 64 ≤ n
 library-high w n s true e h = cc
 library-high w n s false e h = grind (arith, nat_tests, e)
 
@@ -65,7 +70,8 @@ pub data Which (w : World) (n : ℕ) : Type 0 where
   brick : (s : BrickState) → brick_at w n ≡ Some s → Which w n
   library : (s : LibraryState) → library_at w n ≡ Some s → Which w n
 
-which-if : (w : World) (n : ℕ) (low : Bool) → nat_lt n 64 ≡ low → (if low then nat_lt n (length w.bricks) else nat_lt (n - 64) (length w.libraries)) ≡ true → Which w n
+which-if : (w : World) (n : ℕ) (low : Bool) → nat_lt n 64 ≡ low → (if low then nat_lt n (length w.bricks) else nat_lt (n - 64) (length w.libraries)) ≡ true
+    → Which w n
 which-if w n true e h =
     let low : n < 64 = grind (arith, nat_tests, e) in
     let inside : n < length w.bricks = grind (arith, nat_tests, h) in
@@ -79,3 +85,22 @@ which-if w n false e h =
 
 pub which : (w : World) (n : ℕ) → is_node w n ≡ true → Which w n
 which w n h = which-if w n (nat_lt n 64) refl h
+
+-- the net's node at such a number, which is one of the cluster
+pub brick-node : (w : World) (n : ℕ) (s : BrickState) → brick_at w n ≡ Some s → node_at w n ≡ a_brick s
+brick-node w n s e = ap (λ o. node_in o (library_at w n)) e
+
+pub library-node : (w : World) (n : ℕ) (s : LibraryState) → library_at w n ≡ Some s → node_at w n ≡ a_library s
+library-node w n s e = ap (λ o. node_in o (library_at w n)) (no-brick w n (library-high w n s (nat_lt n 64) refl e)) ∙ ap (node_in None) e
+
+pub brick-in : (z : Sizes) (w : World) (n : ℕ) (s : BrickState) → IsSized z.bricks z.libraries w → brick_at w n ≡ Some s → is_in z n ≡ true
+brick-in z w n s g e =
+    let i = slice_get_within w.bricks n s (brick-found w n s (nat_lt n 64) e) in
+    let k = g.bricks in
+    low-in z n (brick-low w n s (nat_lt n 64) refl e) (omega (arith, i, k))
+
+pub library-in : (z : Sizes) (w : World) (n : ℕ) (s : LibraryState) → IsSized z.bricks z.libraries w → library_at w n ≡ Some s → is_in z n ≡ true
+library-in z w n s g e =
+    let i = slice_get_within w.libraries (n - 64) s (library-found w n s (nat_lt n 64) e) in
+    let k = g.libraries in
+    high-in z n (library-high w n s (nat_lt n 64) refl e) (omega (arith, i, k))

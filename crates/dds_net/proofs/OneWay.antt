@@ -23,15 +23,18 @@ pub record TakesWays (P : Way) (z : Sizes) (at from : ℕ) (l : Letter) (x y : N
   pub hears : (s : Node) (c : List Letter) → P from at s x (l ∷ c) → P from at s y c
   pub says : (b : ℕ) (r : Node) (c : List Letter) → P at b x r c → P at b y r (c ++ gains z ls b)
 
-taken-way : (P : Way) (z : Sizes) (n : Net) (at from : ℕ) (l : Letter) (y : Node) (ls : List (NodeNo × Letter)) → IsFirst z n at from l → TakesWays P z at from l (n.node at) y ls → AllWays P n → (a : ℕ) → P a at (n.node a) y (without_first n at from a at)
+taken-way : (P : Way) (z : Sizes) (n : Net) (at from : ℕ) (l : Letter) (y : Node) (ls : List (NodeNo × Letter)) → IsFirst z n at from l
+    → TakesWays P z at from l (n.node at) y ls → AllWays P n → (a : ℕ) → P a at (n.node a) y (without_first n at from a at)
 taken-way P z n at from l y ls f t g a = elim (cases_eq a from) [
   | inl e ↦
       subst (λ i. P i at (n.node i) y (without_first n at from i at)) (sym e)
-      (subst (P from at (n.node from) y) (sym (first-taken n at from ∙ ap (drop 1) f.first)) (t.hears (n.node from) f.others (subst (P from at (n.node from) (n.node at)) f.first (g from at))))
+      (subst (P from at (n.node from) y) (sym (first-taken n at from ∙ ap (drop 1) f.first))
+      (t.hears (n.node from) f.others (subst (P from at (n.node from) (n.node at)) f.first (g from at))))
   | inr ne ↦ subst (P a at (n.node a) y) (sym (other-from n at from a at ne)) (t.stays a (n.node a) (n.channel a at) ne (g a at))
 ]
 
-pub takes-ways : (P : Way) (z : Sizes) (n : Net) (at from : ℕ) (l : Letter) (y : Node) (ls : List (NodeNo × Letter)) → IsFirst z n at from l → TakesWays P z at from l (n.node at) y ls → AllWays P n → AllWays P (changed n (takes z n at from y ls))
+pub takes-ways : (P : Way) (z : Sizes) (n : Net) (at from : ℕ) (l : Letter) (y : Node) (ls : List (NodeNo × Letter)) → IsFirst z n at from l
+    → TakesWays P z at from l (n.node at) y ls → AllWays P n → AllWays P (changed n (takes z n at from y ls))
 takes-ways P z n at from l y ls f t g =
     pairs-changed (λ a b x r c d. P a b x r c) n (takes z n at from y ls) (record {
       own = t.says at y (without_first n at from at at) (taken-way P z n at from l y ls f t g at);
@@ -44,7 +47,8 @@ pub record DoesWays (P : Way) (z : Sizes) (at : ℕ) (x y : Node) (ls : List (No
   pub stays : (a : ℕ) (s : Node) (c : List Letter) → P a at s x c → P a at s y c
   pub says : (b : ℕ) (r : Node) (c : List Letter) → P at b x r c → P at b y r (c ++ gains z ls b)
 
-pub does-ways : (P : Way) (z : Sizes) (n : Net) (at : ℕ) (y : Node) (ls : List (NodeNo × Letter)) → DoesWays P z at (n.node at) y ls → AllWays P n → AllWays P (changed n (does z n at y ls))
+pub does-ways : (P : Way) (z : Sizes) (n : Net) (at : ℕ) (y : Node) (ls : List (NodeNo × Letter)) → DoesWays P z at (n.node at) y ls → AllWays P n
+    → AllWays P (changed n (does z n at y ls))
 does-ways P z n at y ls t g =
     pairs-changed (λ a b x r c d. P a b x r c) n (does z n at y ls) (record {
       own = t.says at y (n.channel at at) (t.stays at (n.node at) (n.channel at at) (g at at));
@@ -57,7 +61,8 @@ pub record StopsWays (P : Way) (z : Sizes) (at : ℕ) (x y : Node) : Type 0 wher
   pub stays : (a : ℕ) (s : Node) (c : List Letter) → P a at s x c → P a at s y c
   pub leaves : (b : ℕ) (r : Node) (c left : List Letter) → IsFront left c → P at b x r c → P at b y r (left ++ notice_to z at b)
 
-pub stops-ways : (P : Way) (z : Sizes) (n : Net) (at : ℕ) (y : Node) (left : ℕ → List Letter) → ((b : ℕ) → IsFront (left b) (n.channel at b)) → StopsWays P z at (n.node at) y → AllWays P n → AllWays P (changed n (stops z n at y left))
+pub stops-ways : (P : Way) (z : Sizes) (n : Net) (at : ℕ) (y : Node) (left : ℕ → List Letter) → ((b : ℕ) → IsFront (left b) (n.channel at b))
+    → StopsWays P z at (n.node at) y → AllWays P n → AllWays P (changed n (stops z n at y left))
 stops-ways P z n at y left f t g =
     pairs-changed (λ a b x r c d. P a b x r c) n (stops z n at y left) (record {
       own = t.leaves at y (n.channel at at) (left at) (f at) (t.stays at (n.node at) (n.channel at at) (g at at));

@@ -15,7 +15,8 @@ pub data IsNew (o : OpeningOf) (n : ℕ) (x : Node) : Type 0 where
   new_a_brick : x ≡ a_brick (new_brick o.leaves n) → IsNew o n x
   new_a_library : 64 ≤ n → x ≡ a_library (new_library o (n - 64)) → IsNew o n x
 
-bricks-new : (o : OpeningOf) (c first i n : ℕ) (y : Option LibraryState) → first + i ≡ n → IsNew o n (node_in None y) → IsNew o n (node_in (slice_get (new_bricks o.leaves c first) i) y)
+bricks-new : (o : OpeningOf) (c first i n : ℕ) (y : Option LibraryState) → first + i ≡ n → IsNew o n (node_in None y)
+    → IsNew o n (node_in (slice_get (new_bricks o.leaves c first) i) y)
 bricks-new o zero first i n y e h = h
 bricks-new o (suc c) first zero n y e h = let k : first ≡ n = omega (arith, e) in new_a_brick (ap (λ j. a_brick (new_brick o.leaves j)) k)
 bricks-new o (suc c) first (suc i) n y e h = bricks-new o c (first + 1) i n y (omega (arith, e)) h
@@ -25,7 +26,9 @@ libraries-new o zero first i n high e = no_node refl
 libraries-new o (suc c) first zero n high e = let k : first ≡ n - 64 = omega (arith, e) in new_a_library high (ap (λ j. a_library (new_library o j)) k)
 libraries-new o (suc c) first (suc i) n high e = libraries-new o c (first + 1) i n high (omega (arith, e))
 
-new-if : (o : OpeningOf) (n : ℕ) (low : Bool) → nat_lt n 64 ≡ low → IsNew o n (node_in (if low then slice_get (new_bricks o.leaves o.bricks 0) n else None) (if low then None else slice_get (new_libraries o o.libraries 0) (n - 64)))
+new-if : (o : OpeningOf) (n : ℕ) (low : Bool) → nat_lt n 64 ≡ low
+    → IsNew o n (node_in (if low then slice_get (new_bricks o.leaves o.bricks 0) n else None)
+    (if low then None else slice_get (new_libraries o o.libraries 0) (n - 64)))
 new-if o n true e = bricks-new o o.bricks 0 n n None (omega arith) (no_node refl)
 new-if o n false e = libraries-new o o.libraries 0 (n - 64) n (grind (arith, nat_tests, e)) (omega arith)
 
@@ -48,7 +51,8 @@ nothing-on (suc n) m (suc i) j = nothing-on n m i j
 
 nothing-sent : (o : OpeningOf) (i j : ℕ) → channel (start o).world o.bricks i j ≡ []
 nothing-sent o i j =
-    ap (λ x. x ++ sent o.bricks j (slice_index_or (replicate (o.bricks + o.libraries) []) i [])) (nothing-on (o.bricks + o.libraries) (o.bricks + o.libraries) i j)
+    ap (λ x. x ++ sent o.bricks j (slice_index_or (replicate (o.bricks + o.libraries) []) i []))
+    (nothing-on (o.bricks + o.libraries) (o.bricks + o.libraries) i j)
     ∙ ap (sent o.bricks j) (nothing-there (o.bricks + o.libraries) i [])
 
 when-empty : (c : Bool) → when_in c [] ≡ []
@@ -56,4 +60,6 @@ when-empty true = refl
 when-empty false = refl
 
 pub start-channel : (o : OpeningOf) (a b : ℕ) → (net (sizes_of o) (start o).world).channel a b ≡ []
-start-channel o a b = ap (λ ms. when_in (is_in (sizes_of o) a && is_in (sizes_of o) b) (letters_of ms)) (nothing-sent o (place_in o.bricks a) (place_in o.bricks b)) ∙ when-empty (is_in (sizes_of o) a && is_in (sizes_of o) b)
+start-channel o a b =
+    ap (λ ms. when_in (is_in (sizes_of o) a && is_in (sizes_of o) b) (letters_of ms)) (nothing-sent o (place_in o.bricks a) (place_in o.bricks b))
+    ∙ when-empty (is_in (sizes_of o) a && is_in (sizes_of o) b)

@@ -45,7 +45,8 @@ only-when p true ls h = h
 only-when p false ls h = refl
 
 pub only-same : (p : Letter → Bool) (z : Sizes) (b : ℕ) (c : List Letter) (ls : List (NodeNo × Letter)) → NoneOf p ls → only p (c ++ gains z ls b) ≡ only p c
-only-same p z b c ls h = only-append p c (gains z ls b) ∙ ap (λ x. only p c ++ x) (only-when p (is_in z b) (landing z b ls) (only-landing p z b ls h)) ∙ append-nil (only p c)
+only-same p z b c ls h =
+    only-append p c (gains z ls b) ∙ ap (λ x. only p c ++ x) (only-when p (is_in z b) (landing z b ls) (only-landing p z b ls h)) ∙ append-nil (only p c)
 
 -- a stop leaves a beginning of them
 pub only-front : (p : Letter → Bool) (xs ys : List Letter) → IsFront xs ys → IsFront (only p xs) (only p ys)
@@ -63,19 +64,27 @@ among-none : (ns : List ℕ) (b : ℕ) → AllByRecursion (λ n. b ≡ n → ⊥
 among-none [] b h = refl
 among-none (n ∷ ns) b h = ap (λ x. x || has ns b) (ne_eqb n b (λ e. h.0 (sym e))) ∙ among-none ns b h.1
 
-each-if : (z : Sizes) (b n : ℕ) (ns : List ℕ) (l : Letter) (c : Bool) → (n == b) ≡ c → AllByRecursion (λ m. n ≡ m → ⊥) ns → landing z b (to_each ns l) ≡ when_in (has ns b) (l ∷ []) → (if c then l ∷ landing z b (to_each ns l) else landing z b (to_each ns l)) ≡ when_in (c || has ns b) (l ∷ [])
-each-if z b n ns l true e h k = ap (λ x. l ∷ x) (k ∙ ap (λ x. when_in x (l ∷ [])) (among-none ns b (subst (λ i. AllByRecursion (λ m. i ≡ m → ⊥) ns) (eqb-true n b e) h)))
+each-if : (z : Sizes) (b n : ℕ) (ns : List ℕ) (l : Letter) (c : Bool) → (n == b) ≡ c → AllByRecursion (λ m. n ≡ m → ⊥) ns
+    → landing z b (to_each ns l) ≡ when_in (has ns b) (l ∷ []) → (if c then l ∷ landing z b (to_each ns l) else landing z b (to_each ns l)) ≡ when_in
+    (c || has ns b) (l ∷ [])
+each-if z b n ns l true e h k =
+    ap (λ x. l ∷ x) (k ∙ ap (λ x. when_in x (l ∷ [])) (among-none ns b (subst (λ i. AllByRecursion (λ m. i ≡ m → ⊥) ns) (eqb-true n b e) h)))
 each-if z b n ns l false e h k = k
 
-pub each-landing : (z : Sizes) (b : ℕ) (ns : List ℕ) (l : Letter) → z.bricks ≤ 64 → is_in z b ≡ true → AllByRecursion (λ n. is_in z n ≡ true) ns → Pairwise (λ m n. m ≡ n → ⊥) ns → landing z b (to_each ns l) ≡ when_in (has ns b) (l ∷ [])
+pub each-landing : (z : Sizes) (b : ℕ) (ns : List ℕ) (l : Letter) → z.bricks ≤ 64 → is_in z b ≡ true → AllByRecursion (λ n. is_in z n ≡ true) ns
+    → Pairwise (λ m n. m ≡ n → ⊥) ns → landing z b (to_each ns l) ≡ when_in (has ns b) (l ∷ [])
 each-landing z b [] l few h a d = refl
-each-landing z b (n ∷ ns) l few h a d = ap (λ x. if x then l ∷ landing z b (to_each ns l) else landing z b (to_each ns l)) (lands-is z n b few a.0 h) ∙ each-if z b n ns l (n == b) refl d.0 (each-landing z b ns l few h a.1 d.1)
+each-landing z b (n ∷ ns) l few h a d =
+    ap (λ x. if x then l ∷ landing z b (to_each ns l) else landing z b (to_each ns l)) (lands-is z n b few a.0 h)
+    ∙ each-if z b n ns l (n == b) refl d.0 (each-landing z b ns l few h a.1 d.1)
 
 -- a letter to each of some nodes comes once to each of them
-pub gains-each : (z : Sizes) (b : ℕ) (ns : List ℕ) (l : Letter) → z.bricks ≤ 64 → is_in z b ≡ true → AllByRecursion (λ n. is_in z n ≡ true) ns → Pairwise (λ m n. m ≡ n → ⊥) ns → gains z (to_each ns l) b ≡ when_in (has ns b) (l ∷ [])
+pub gains-each : (z : Sizes) (b : ℕ) (ns : List ℕ) (l : Letter) → z.bricks ≤ 64 → is_in z b ≡ true → AllByRecursion (λ n. is_in z n ≡ true) ns
+    → Pairwise (λ m n. m ≡ n → ⊥) ns → gains z (to_each ns l) b ≡ when_in (has ns b) (l ∷ [])
 gains-each z b ns l few h a d = ap (λ x. when_in x (landing z b (to_each ns l))) h ∙ each-landing z b ns l few h a d
 
-pub gains-one : (z : Sizes) (to b : ℕ) (l : Letter) → z.bricks ≤ 64 → is_in z to ≡ true → is_in z b ≡ true → gains z ((to, l) ∷ []) b ≡ when_in (to == b) (l ∷ [])
+pub gains-one : (z : Sizes) (to b : ℕ) (l : Letter) → z.bricks ≤ 64 → is_in z to ≡ true → is_in z b ≡ true
+    → gains z ((to, l) ∷ []) b ≡ when_in (to == b) (l ∷ [])
 gains-one z to b l few h k = ap (λ x. when_in x (landing z b ((to, l) ∷ []))) k ∙ ap (λ x. if x then l ∷ [] else []) (lands-is z to b few h k)
 
 -- what some letters and then others bring to a node

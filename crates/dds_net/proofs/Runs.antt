@@ -14,7 +14,8 @@ use Rattle.dds_cluster.specs.declared.trace.Trace.{Trace}
 use Rattle.dds_net.specs.Event.{Event, Fits, History, goes, history_of, moved}
 use Rattle.dds_net.specs.Law.{IsMove}
 use Rattle.dds_net.specs.Net.{Net, nowhere, Sizes, is_in, net, node_in, when_in}
-use Rattle.dds_net.proofs.Steps.{brick-in, library-in, step-moves}
+use Rattle.dds_net.proofs.Nodes.{brick-in, library-in}
+use Rattle.dds_net.proofs.Steps.{step-moves}
 
 -- What each event keeps holds along each run.
 
@@ -30,7 +31,8 @@ pub record IsBuilt (z : Sizes) (n : Net) : Type 0 where
   pub outside : (k : ℕ) → is_in z k ≡ false → n.node k ≡ nowhere
   pub nothing : (a b : ℕ) → (is_in z a && is_in z b) ≡ false → n.channel a b ≡ []
 
-outside-if : (z : Sizes) (w : World) (k : ℕ) (x : Option BrickState) (y : Option LibraryState) → IsSized z.bricks z.libraries w → is_in z k ≡ false → brick_at w k ≡ x → library_at w k ≡ y → node_in x y ≡ nowhere
+outside-if : (z : Sizes) (w : World) (k : ℕ) (x : Option BrickState) (y : Option LibraryState) → IsSized z.bricks z.libraries w → is_in z k ≡ false
+    → brick_at w k ≡ x → library_at w k ≡ y → node_in x y ≡ nowhere
 outside-if z w k None None g h e f = refl
 outside-if z w k None (Some s) g h e f = absurd (both_ways (is_in z k) h (library-in z w k s g f))
 outside-if z w k (Some s) y g h e f = absurd (both_ways (is_in z k) h (brick-in z w k s g e))
@@ -40,7 +42,8 @@ guard-false true x e = cc
 guard-false false x e = refl
 
 pub net-built : (z : Sizes) (w : World) → IsSized z.bricks z.libraries w → IsBuilt z (net z w)
-net-built z w g = record { outside = λ k h. outside-if z w k (brick_at w k) (library_at w k) g h refl refl; nothing = λ a b h. guard-false (is_in z a && is_in z b) _ h }
+net-built z w g =
+    record { outside = λ k h. outside-if z w k (brick_at w k) (library_at w k) g h refl refl; nothing = λ a b h. guard-false (is_in z a && is_in z b) _ h }
 
 -- what a law says, of the history, the nodes and channels, and what it keeps of all events so far; what each event adds to
 -- that; and that each event keeps it
@@ -62,8 +65,17 @@ pub record Ran (z : Sizes) (B : Type 0) (holds : Claim B) (t : Trace) : Type 0 w
 pub next-is : (t : Trace) (x : Step) → is_possible t x ≡ true → next t x ≡ adds t x (turn t.steps t.world x)
 next-is t x p = ap (λ b. if b then adds t x (turn t.steps t.world x) else record t { steps = t.steps + 1 }) p
 
-pub history-is : (z : Sizes) (t : Trace) (x : Step) (m : IsMove z t.callers t.steps t.world x (turn t.steps t.world x)) → history_of (adds t x (turn t.steps t.world x)) ≡ goes (history_of t) m.event
-history-is z t x m = λ i. record { steps = t.steps + 1; callers = all_closed (m.opened i) (m.replies i); asked = t.asked ++ m.asked i; made = t.made ++ all_kept t.made (m.points i); told = t.told ++ told_at t.steps (m.replies i) }
+pub history-is : (z : Sizes) (t : Trace) (x : Step) (m : IsMove z t.callers t.steps t.world x (turn t.steps t.world x))
+    → history_of (adds t x (turn t.steps t.world x)) ≡ goes (history_of t) m.event
+history-is z t x m =
+    λ i. record {
+      steps = t.steps + 1;
+      callers = all_closed (m.opened i) (m.replies i);
+      asked = t.asked ++ m.asked i;
+      made = t.made ++ all_kept t.made
+          (m.points i);
+      told = t.told ++ told_at t.steps (m.replies i);
+    }
 
 -- one step more, with the event that it was
 pub record Stepped (z : Sizes) (B : Type 0) (adds_to : Books B) (holds : Claim B) (t : Trace) (b : B) (u : Trace) : Type 0 where
@@ -71,7 +83,8 @@ pub record Stepped (z : Sizes) (B : Type 0) (adds_to : Books B) (holds : Claim B
   pub event : Event
   pub books_are : ran.books ≡ adds_to (history_of t) (net z t.world) event b
 
-pub step-keeps : (z : Sizes) (B : Type 0) (adds_to : Books B) (holds : Claim B) (t : Trace) (x : Step) → z.bricks ≤ 64 → IsKept z B adds_to holds → (r : Ran z B holds t) → is_possible t x ≡ true → Stepped z B adds_to holds t r.books (next t x)
+pub step-keeps : (z : Sizes) (B : Type 0) (adds_to : Books B) (holds : Claim B) (t : Trace) (x : Step) → z.bricks ≤ 64 → IsKept z B adds_to holds
+    → (r : Ran z B holds t) → is_possible t x ≡ true → Stepped z B adds_to holds t r.books (next t x)
 step-keeps z B adds_to holds t x few keeps r p =
     let m = step-moves z t x few r.sized p in
     let b = adds_to (history_of t) (net z t.world) m.event r.books in
@@ -81,13 +94,16 @@ step-keeps z B adds_to holds t x few keeps r p =
       ran = record {
         sized = sized-next z.bricks z.libraries t x r.sized;
         books = b;
-        is = subst (λ (u : Trace). holds (history_of u) (net z u.world) b) (sym n) (subst (λ h. holds h (net z (turn t.steps t.world x).world) b) (sym (history-is z t x m)) (subst (λ w. holds (goes (history_of t) m.event) w b) (sym m.after) k));
+        is = subst (λ (u : Trace). holds (history_of u) (net z u.world) b) (sym n)
+            (subst (λ h. holds h (net z (turn t.steps t.world x).world) b) (sym (history-is z t x m))
+            (subst (λ w. holds (goes (history_of t) m.event) w b) (sym m.after) k));
       };
       event = m.event;
       books_are = refl;
     }
 
-pub run-keeps : (z : Sizes) (B : Type 0) (adds_to : Books B) (holds : Claim B) (steps : List Step) (t : Trace) → z.bricks ≤ 64 → IsKept z B adds_to holds → Ran z B holds t → is_run_from t steps ≡ true → Ran z B holds (trace_from t steps)
+pub run-keeps : (z : Sizes) (B : Type 0) (adds_to : Books B) (holds : Claim B) (steps : List Step) (t : Trace) → z.bricks ≤ 64 → IsKept z B adds_to holds
+    → Ran z B holds t → is_run_from t steps ≡ true → Ran z B holds (trace_from t steps)
 run-keeps z B adds_to holds [] t few keeps r p = r
 run-keeps z B adds_to holds (x ∷ steps) t few keeps r p =
     let q = and_parts (is_possible t x) (is_run_from (next t x) steps) p in

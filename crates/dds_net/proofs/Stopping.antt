@@ -1,4 +1,5 @@
-use Rattle.std.proofs.Common.{◌≡◌, ℕ, zero, suc, ◌+◌, ◌<◌, ◌≤◌, ◌⊎◌, inl, inr, ◌==◌, ◌&&◌, ◌||◌, Bool, true, false, not, List, [], ◌∷◌, ◌++◌, length, refl, sym, ap, ◌∙◌, subst, arith}
+use Rattle.std.proofs.Common.{◌≡◌, ℕ, zero, suc, ◌+◌, ◌<◌, ◌≤◌, ◌⊎◌, inl, inr, ◌==◌, ◌&&◌, ◌||◌, Bool, true, false, not, List, [], ◌∷◌, ◌++◌, length, refl, sym}
+use Rattle.std.proofs.Common.{ap, ◌∙◌, subst, arith}
 use Rattle.std.proofs.lemmas.Bool.{cases_eq, eq-eqb, eqb-true, ne_eqb, or_left, or_right}
 use Rattle.std.proofs.lemmas.List.{get_or-set_same, get_or-set_other, length-set}
 use Rattle.std.specs.List.{AllByRecursion}
@@ -27,7 +28,8 @@ Apart m n = m ≡ n → ⊥
 -- numbers in order
 numbers-all : (P : ℕ → Type 0) (k first : ℕ) → ((n : ℕ) → first ≤ n → n < first + k → P n) → AllByRecursion P (numbers_from k first)
 numbers-all P zero first h = tt
-numbers-all P (suc k) first h = (h first (omega arith) (omega arith), numbers-all P k (first + 1) (λ n low high. h n (omega (arith, low)) (omega (arith, high))))
+numbers-all P (suc k) first h =
+    (h first (omega arith) (omega arith), numbers-all P k (first + 1) (λ n low high. h n (omega (arith, low)) (omega (arith, high))))
 
 numbers-apart : (k first : ℕ) → Pairwise Apart (numbers_from k first)
 numbers-apart zero first = tt
@@ -49,18 +51,23 @@ all_but z n = without (nodes_of z) n
 
 nodes-in : (z : Sizes) → z.bricks ≤ 64 → AllByRecursion (λ n. is_in z n ≡ true) (nodes_of z)
 nodes-in z few =
-    all-append (λ n. is_in z n ≡ true) (numbers_from z.bricks 0) (numbers_from z.libraries 64) (numbers-all (λ n. is_in z n ≡ true) z.bricks 0 (λ n low high. low-in z n (omega (arith, high, few)) (omega (arith, high)))) (numbers-all (λ n. is_in z n ≡ true) z.libraries 64 (λ n low high. high-in z n low (omega (arith, low, high))))
+    all-append (λ n. is_in z n ≡ true) (numbers_from z.bricks 0) (numbers_from z.libraries 64)
+    (numbers-all (λ n. is_in z n ≡ true) z.bricks 0 (λ n low high. low-in z n (omega (arith, high, few)) (omega (arith, high))))
+    (numbers-all (λ n. is_in z n ≡ true) z.libraries 64 (λ n low high. high-in z n low (omega (arith, low, high))))
 
 nodes-apart : (z : Sizes) → z.bricks ≤ 64 → Pairwise Apart (nodes_of z)
 nodes-apart z few =
-    pairs-append Apart (numbers_from z.bricks 0) (numbers_from z.libraries 64) (numbers-apart z.bricks 0) (numbers-apart z.libraries 64) (numbers-all (λ m. AllByRecursion (Apart m) (numbers_from z.libraries 64)) z.bricks 0 (λ m low high. numbers-all (Apart m) z.libraries 64 (λ n above below e. omega (arith, high, few, above, e))))
+    pairs-append Apart (numbers_from z.bricks 0) (numbers_from z.libraries 64) (numbers-apart z.bricks 0) (numbers-apart z.libraries 64)
+    (numbers-all (λ m. AllByRecursion (Apart m) (numbers_from z.libraries 64)) z.bricks 0
+    (λ m low high. numbers-all (Apart m) z.libraries 64 (λ n above below e. omega (arith, high, few, above, e))))
 
 has-append : (xs ys : List ℕ) (n : ℕ) → (has xs n ≡ true) ⊎ (has ys n ≡ true) → has (xs ++ ys) n ≡ true
 has-append [] ys n (inl h) = cc
 has-append [] ys n (inr h) = h
 has-append (x ∷ xs) ys n h = elim (cases_eq x n) [
   | inl e ↦ or_left (x == n) (has (xs ++ ys) n) (eq-eqb x n e)
-  | inr ne ↦ or_right (x == n) (has (xs ++ ys) n) (has-append xs ys n (elim h [ inl k ↦ inl (sym (ap (λ c. c || has xs n) (ne_eqb x n ne)) ∙ k) | inr k ↦ inr k ]))
+  | inr ne ↦ or_right (x == n) (has (xs ++ ys) n)
+      (has-append xs ys n (elim h [ inl k ↦ inl (sym (ap (λ c. c || has xs n) (ne_eqb x n ne)) ∙ k) | inr k ↦ inr k ]))
 ]
 
 nodes-have : (z : Sizes) (n : ℕ) → is_in z n ≡ true → has (nodes_of z) n ≡ true
@@ -74,7 +81,8 @@ and-false : (h : Bool) → (h && false) ≡ false
 and-false true = refl
 and-false false = refl
 
-without-if : (c d e h : Bool) (x n : ℕ) (ys : List ℕ) → (x == n) ≡ d → (d ≡ true → c ≡ e) → has ys n ≡ (h && not e) → has (if not c then x ∷ ys else ys) n ≡ ((d || h) && not e)
+without-if : (c d e h : Bool) (x n : ℕ) (ys : List ℕ) → (x == n) ≡ d → (d ≡ true → c ≡ e) → has ys n ≡ (h && not e)
+    → has (if not c then x ∷ ys else ys) n ≡ ((d || h) && not e)
 without-if true true true h x n ys is same k = k ∙ and-false h
 without-if true true false h x n ys is same k = let s = same refl in cc
 without-if true false e h x n ys is same k = k
@@ -84,11 +92,14 @@ without-if false false e h x n ys is same k = ap (λ c. c || has ys n) is ∙ k
 
 has-without : (xs : List ℕ) (m n : ℕ) → has (without xs m) n ≡ (has xs n && not (n == m))
 has-without [] m n = refl
-has-without (x ∷ xs) m n = without-if (x == m) (x == n) (n == m) (has xs n) x n (without xs m) refl (λ e. ap (λ k. k == m) (eqb-true x n e)) (has-without xs m n)
+has-without (x ∷ xs) m n =
+    without-if (x == m) (x == n) (n == m) (has xs n) x n (without xs m) refl (λ e. ap (λ k. k == m) (eqb-true x n e)) (has-without xs m n)
 
-told-if : (z : Sizes) (n b : ℕ) → z.bricks ≤ 64 → is_in z b ≡ true → landing z b (to_each (all_but z n) letter.Notice) ≡ when_in (not (b == n)) (letter.Notice ∷ [])
+told-if : (z : Sizes) (n b : ℕ) → z.bricks ≤ 64 → is_in z b ≡ true → landing z b (to_each (all_but z n) letter.Notice) ≡ when_in (not (b == n))
+    (letter.Notice ∷ [])
 told-if z n b few hb =
-    each-landing z b (all_but z n) letter.Notice few hb (all-filter _ (λ m. not (m == n)) (nodes_of z) (nodes-in z few)) (pairs-filter Apart (λ m. not (m == n)) (nodes_of z) (nodes-apart z few))
+    each-landing z b (all_but z n) letter.Notice few hb (all-filter _ (λ m. not (m == n)) (nodes_of z) (nodes-in z few))
+    (pairs-filter Apart (λ m. not (m == n)) (nodes_of z) (nodes-apart z few))
     ∙ ap (λ c. when_in c (letter.Notice ∷ [])) (has-without (nodes_of z) n b ∙ ap (λ c. c && not (b == n)) (nodes-have z b hb))
 
 -- what stopping leaves of boxes and links
@@ -100,7 +111,8 @@ pub record Tells (z : Sizes) (n k : ℕ) (w u : World) : Type 0 where
 all-are : (z : Sizes) (v : World) → IsSized z.bricks z.libraries v → all_nodes v ≡ numbers_from z.bricks 0 ++ numbers_from z.libraries 64
 all-are z v s = ap (λ k. numbers_from k 0 ++ numbers_from (length v.libraries) 64) s.bricks ∙ ap (λ k. numbers_from z.bricks 0 ++ numbers_from k 64) s.libraries
 
-tells-box : (v : World) (n at : ℕ) → place v n ≡ at → at < length v.outboxes → box (tells v n) at ≡ numbered v.made (to_each (without (all_nodes v) n) letter.Notice)
+tells-box : (v : World) (n at : ℕ) → place v n ≡ at → at < length v.outboxes → box (tells v n) at ≡ numbered v.made
+    (to_each (without (all_nodes v) n) letter.Notice)
 tells-box v n at e h =
     subst (λ i. box (tells v n) i ≡ numbered v.made (to_each (without (all_nodes v) n) letter.Notice)) e
     (let inside : place v n < length v.outboxes = subst (λ i. i < length v.outboxes) (sym e) h in
@@ -114,7 +126,8 @@ tells-is z v n s h =
     let b = place-below z n h in
     record {
       boxed = tells-box v n (place_in z.bricks n) p (omega (arith, o, b)) ∙ ap (λ ns. numbered v.made (to_each (without ns n) letter.Notice)) (all-are z v s);
-      boxes = λ i ne. get_or-set_other (slice_set v.outboxes (place v n) []) (place v n) i _ [] (λ e. ne (e ∙ p)) ∙ get_or-set_other v.outboxes (place v n) i [] [] (λ e. ne (e ∙ p));
+      boxes = λ i ne. get_or-set_other (slice_set v.outboxes (place v n) []) (place v n) i _ [] (λ e. ne (e ∙ p))
+          ∙ get_or-set_other v.outboxes (place v n) i [] [] (λ e. ne (e ∙ p));
       lanes = λ i j. refl;
     }
 
@@ -127,14 +140,20 @@ front-if true xs ys zs e = record { gone = ys; is = e }
 front-if false xs ys zs e = record { gone = []; is = refl }
 
 pub links-left : (z : Sizes) (w : World) (n : ℕ) → IsLeft (net z w) n (links_of z w n)
-links-left z w n = record { front = λ b. front-if (is_in z n && is_in z b) _ (letters_of (sent z.bricks (place_in z.bricks b) (box w (place_in z.bricks n)))) _ (letters-append (lane w (place_in z.bricks n) (place_in z.bricks b)) (sent z.bricks (place_in z.bricks b) (box w (place_in z.bricks n)))) }
+links-left z w n =
+    record {
+      front = λ b. front-if (is_in z n && is_in z b) _ (letters_of (sent z.bricks (place_in z.bricks b) (box w (place_in z.bricks n)))) _
+          (letters-append (lane w (place_in z.bricks n) (place_in z.bricks b)) (sent z.bricks (place_in z.bricks b) (box w (place_in z.bricks n))));
+    }
 
-stop-if : (x y e : Bool) (c d : List Letter) → x ≡ true → (y ≡ true → c ≡ d ++ when_in e (letter.Notice ∷ [])) → when_in (x && y) c ≡ when_in (x && y) d ++ when_in (y && e) (letter.Notice ∷ [])
+stop-if : (x y e : Bool) (c d : List Letter) → x ≡ true → (y ≡ true → c ≡ d ++ when_in e (letter.Notice ∷ []))
+    → when_in (x && y) c ≡ when_in (x && y) d ++ when_in (y && e) (letter.Notice ∷ [])
 stop-if true true e c d h f = f refl
 stop-if true false e c d h f = refl
 stop-if false y e c d h f = cc
 
-stop-from : (z : Sizes) (w u : World) (n k b : ℕ) → z.bricks ≤ 64 → is_in z n ≡ true → Tells z n k w u → channel_at z u n b ≡ links_of z w n b ++ notice_to z n b
+stop-from : (z : Sizes) (w u : World) (n k b : ℕ) → z.bricks ≤ 64 → is_in z n ≡ true → Tells z n k w u
+    → channel_at z u n b ≡ links_of z w n b ++ notice_to z n b
 stop-from z w u n k b few h t =
     let i = place_in z.bricks n in
     let j = place_in z.bricks b in
@@ -143,13 +162,22 @@ stop-from z w u n k b few h t =
     ∙ letters-append (lane w i j) (sent z.bricks j (numbered k (to_each (all_but z n) letter.Notice)))
     ∙ ap (λ x. letters_of (lane w i j) ++ x) (landing-is z b k (to_each (all_but z n) letter.Notice) ∙ told-if z n b few hb))
 
-stop-still : (z : Sizes) (w u : World) (n k a b : ℕ) → z.bricks ≤ 64 → is_in z n ≡ true → Tells z n k w u → (a ≡ n → ⊥) → channel_at z u a b ≡ channel_at z w a b
+stop-still : (z : Sizes) (w u : World) (n k a b : ℕ) → z.bricks ≤ 64 → is_in z n ≡ true → Tells z n k w u → (a ≡ n → ⊥)
+    → channel_at z u a b ≡ channel_at z w a b
 stop-still z w u n k a b few h t ne =
     same-channel z w u a b (λ ha hb.
     let i = place_in z.bricks a in
     let j = place_in z.bricks b in
     ap (λ x. x ++ sent z.bricks j (box u i)) (t.lanes i j) ∙ ap (λ x. lane w i j ++ sent z.bricks j x) (t.boxes i (λ e. ne (one-place z a n few ha h e))))
 
-pub stops-net : (z : Sizes) (w u : World) (n k : ℕ) (x : Node) → z.bricks ≤ 64 → is_in z n ≡ true → Tells z n k w u → ((j : ℕ) → node_at u j ≡ put n x (node_at w) j) → net z u ≡ changed (net z w) (stops z (net z w) n x (links_of z w n))
+pub stops-net : (z : Sizes) (w u : World) (n k : ℕ) (x : Node) → z.bricks ≤ 64 → is_in z n ≡ true → Tells z n k w u
+    → ((j : ℕ) → node_at u j ≡ put n x (node_at w) j) → net z u ≡ changed (net z w) (stops z (net z w) n x (links_of z w n))
 stops-net z w u n k x few h t p =
-    net-is (net z u) (changed (net z w) (stops z (net z w) n x (links_of z w n))) p (is-changed (channel_at z u) (net z w) (stops z (net z w) n x (links_of z w n)) (record { from = λ b. stop-from z w u n k b few h t; to = λ a ne. stop-still z w u n k a n few h t ne; others = λ a b ne nb. stop-still z w u n k a b few h t ne }))
+    net-is (net z u) (changed (net z w) (stops z (net z w) n x (links_of z w n))) p
+    (is-changed (channel_at z u) (net z w) (stops z (net z w) n x (links_of z w n))
+    (record {
+      from = λ b. stop-from z w u n k b few h t;
+      to = λ a ne. stop-still z w u n k a n few h t ne;
+      others = λ a b ne nb. stop-still z w u n k a b few h
+          t ne;
+    }))

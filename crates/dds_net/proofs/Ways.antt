@@ -1,4 +1,5 @@
-use Rattle.std.proofs.Common.{◌≡◌, ℕ, zero, suc, ◌+◌, ◌-◌, ◌<◌, ◌≤◌, ◌⊎◌, inl, inr, ◌==◌, ◌&&◌, Bool, true, false, Option, Some, None, List, [], ◌∷◌, ◌++◌, length, refl, sym, ap, ◌∙◌, subst, arith}
+use Rattle.std.proofs.Common.{◌≡◌, ℕ, zero, suc, ◌+◌, ◌-◌, ◌<◌, ◌≤◌, ◌⊎◌, inl, inr, ◌==◌, ◌&&◌, Bool, true, false, Option, Some, None, List, [], ◌∷◌, ◌++◌}
+use Rattle.std.proofs.Common.{length, refl, sym, ap, ◌∙◌, subst, arith}
 use Rattle.std.proofs.lemmas.Bool.{and_from, cases_lt, eq-eqb}
 use Rattle.std.specs.List.{AllByRecursion}
 use Rattle.std.specs.Prelude.{slice_get, slice_index_or, if◌then◌else◌}
@@ -30,29 +31,35 @@ in-outbox : (P : Letter → Type 0) (xs ys : List Message) → AllByRecursion P 
 in-outbox P [] ys h = h
 in-outbox P (x ∷ xs) ys h = in-outbox P xs ys h.1
 
-sent-first : (P : Letter → Type 0) (c : Bool) (m : Message) (ms : List Message) → c ≡ true → AllByRecursion P (letters_of (if c then m ∷ ms else ms)) → P m.letter
+sent-first : (P : Letter → Type 0) (c : Bool) (m : Message) (ms : List Message) → c ≡ true → AllByRecursion P (letters_of (if c then m ∷ ms else ms))
+    → P m.letter
 sent-first P true m ms e h = h.0
 sent-first P false m ms e h = cc
 
-sent-rest : (P : Letter → Type 0) (c : Bool) (m : Message) (ms : List Message) → AllByRecursion P (letters_of (if c then m ∷ ms else ms)) → AllByRecursion P (letters_of ms)
+sent-rest : (P : Letter → Type 0) (c : Bool) (m : Message) (ms : List Message) → AllByRecursion P (letters_of (if c then m ∷ ms else ms))
+    → AllByRecursion P (letters_of ms)
 sent-rest P true m ms h = h.1
 sent-rest P false m ms h = h
 
-sent-at : (P : Letter → Type 0) (b j : ℕ) (ms : List Message) (at : ℕ) (m : Message) → AllByRecursion P (letters_of (sent b j ms)) → slice_get ms at ≡ Some m → place_in b m.to ≡ j → P m.letter
+sent-at : (P : Letter → Type 0) (b j : ℕ) (ms : List Message) (at : ℕ) (m : Message) → AllByRecursion P (letters_of (sent b j ms)) → slice_get ms at ≡ Some m
+    → place_in b m.to ≡ j → P m.letter
 sent-at P b j [] at m h e p = cc
 sent-at P b j (x ∷ ms) zero m h e p =
     let is : x ≡ m = cc in
-    subst (λ (y : Message). P y.letter) is (sent-first P (place_in b x.to == j) x (sent b j ms) (eq-eqb (place_in b x.to) j (ap (λ (y : Message). place_in b y.to) is ∙ p)) h)
+    subst (λ (y : Message). P y.letter) is (sent-first P (place_in b x.to == j) x (sent b j ms)
+    (eq-eqb (place_in b x.to) j (ap (λ (y : Message). place_in b y.to) is ∙ p)) h)
 sent-at P b j (x ∷ ms) (suc at) m h e p = sent-at P b j ms at m (sent-rest P (place_in b x.to == j) x (sent b j ms) h) e p
 
 guarded : (c : Bool) (ls : List Letter) → c ≡ true → when_in c ls ≡ ls
 guarded true ls e = refl
 guarded false ls e = cc
 
-pub channel-is : (z : Sizes) (w : World) (a b : ℕ) → is_in z a ≡ true → is_in z b ≡ true → channel_at z w a b ≡ letters_of (channel w z.bricks (place_in z.bricks a) (place_in z.bricks b))
+pub channel-is : (z : Sizes) (w : World) (a b : ℕ) → is_in z a ≡ true → is_in z b ≡ true
+    → channel_at z w a b ≡ letters_of (channel w z.bricks (place_in z.bricks a) (place_in z.bricks b))
 channel-is z w a b ha hb = guarded (is_in z a && is_in z b) _ (and_from (is_in z a) (is_in z b) ha hb)
 
-pub travels : (P : Letter → Type 0) (z : Sizes) (w : World) (from to : ℕ) (l : Letter) → IsSized z.bricks z.libraries w → Travels w from to l → AllByRecursion P (channel_at z w from to) → P l
+pub travels : (P : Letter → Type 0) (z : Sizes) (w : World) (from to : ℕ) (l : Letter) → IsSized z.bricks z.libraries w → Travels w from to l
+    → AllByRecursion P (channel_at z w from to) → P l
 travels P z w from to l g t h =
     let i = place_in z.bricks from in
     let j = place_in z.bricks to in
@@ -62,7 +69,8 @@ travels P z w from to l g t h =
           let e : link w from to ≡ lane w i j = ap (λ p. lane w p (place w to)) (place-is z w from g) ∙ ap (lane w i) (place-is z w to g) in
           all-at P (lane w i j) t.at t.message (on-link P (lane w i j) (sent z.bricks j (box w i)) k) (sym (ap (λ ms. slice_get ms t.at) e) ∙ on)
       | inr on ↦
-          sent-at P z.bricks j (box w i) t.at t.message (in-outbox P (lane w i j) (sent z.bricks j (box w i)) k) (sym (ap (λ p. slice_get (box w p) t.at) (place-is z w from g)) ∙ on.0) (ap (place_in z.bricks) on.1)
+          sent-at P z.bricks j (box w i) t.at t.message (in-outbox P (lane w i j) (sent z.bricks j (box w i)) k)
+          (sym (ap (λ p. slice_get (box w p) t.at) (place-is z w from g)) ∙ on.0) (ap (place_in z.bricks) on.1)
     ])
 
 -- the node at a place
@@ -89,7 +97,8 @@ pub data LinkIs (z : Sizes) (w : World) (ms : List Message) : Type 0 where
   no_link : ms ≡ [] → LinkIs z w ms
   some_link : (a b : ℕ) → is_in z b ≡ true → (more : List Message) → channel_at z w a b ≡ letters_of (ms ++ more) → LinkIs z w ms
 
-link-if : (z : Sizes) (w : World) (p q : ℕ) → z.bricks ≤ 64 → IsSized z.bricks z.libraries w → (p < z.bricks + z.libraries) ⊎ (z.bricks + z.libraries ≤ p) → (q < z.bricks + z.libraries) ⊎ (z.bricks + z.libraries ≤ q) → LinkIs z w (lane w p q)
+link-if : (z : Sizes) (w : World) (p q : ℕ) → z.bricks ≤ 64 → IsSized z.bricks z.libraries w → (p < z.bricks + z.libraries) ⊎ (z.bricks + z.libraries ≤ p)
+    → (q < z.bricks + z.libraries) ⊎ (z.bricks + z.libraries ≤ q) → LinkIs z w (lane w p q)
 link-if z w p q few g (inr far) k = let s = g.links in no_link (ap (λ row. slice_index_or row q []) (beyond w.links p [] (omega (arith, s, far))))
 link-if z w p q few g (inl h) (inr far) =
     let s = g.links in
@@ -104,18 +113,21 @@ link-if z w p q few g (inl h) (inl k) =
     ∙ ap (λ j. letters_of (channel w z.bricks p j)) b.place)
 
 pub link-is : (z : Sizes) (w : World) (from to : ℕ) → z.bricks ≤ 64 → IsSized z.bricks z.libraries w → LinkIs z w (link w from to)
-link-is z w from to few g = link-if z w (place w from) (place w to) few g (cases_lt (place w from) (z.bricks + z.libraries)) (cases_lt (place w to) (z.bricks + z.libraries))
+link-is z w from to few g =
+    link-if z w (place w from) (place w to) few g (cases_lt (place w from) (z.bricks + z.libraries)) (cases_lt (place w to) (z.bricks + z.libraries))
 
 -- the link of two nodes
 front-empty : (xs ys : List Message) → letters_of (xs ++ ys) ≡ [] → xs ≡ []
 front-empty [] ys e = refl
 front-empty (x ∷ xs) ys e = cc
 
-pub nothing-on : (z : Sizes) (w : World) (a b : ℕ) → IsSized z.bricks z.libraries w → is_in z a ≡ true → is_in z b ≡ true → channel_at z w a b ≡ [] → link w a b ≡ []
+pub nothing-on : (z : Sizes) (w : World) (a b : ℕ) → IsSized z.bricks z.libraries w → is_in z a ≡ true → is_in z b ≡ true → channel_at z w a b ≡ []
+    → link w a b ≡ []
 nothing-on z w a b g ha hb e =
     let i = place_in z.bricks a in
     let j = place_in z.bricks b in
-    ap (λ p. lane w p (place w b)) (place-is z w a g) ∙ ap (lane w i) (place-is z w b g) ∙ front-empty (lane w i j) (sent z.bricks j (box w i)) (sym (channel-is z w a b ha hb) ∙ e)
+    ap (λ p. lane w p (place w b)) (place-is z w a g) ∙ ap (lane w i) (place-is z w b g)
+    ∙ front-empty (lane w i j) (sent z.bricks j (box w i)) (sym (channel-is z w a b ha hb) ∙ e)
 
 -- the brick or library at a number
 pub data NodeIs (w : World) (n : ℕ) : Type 0 where

@@ -10,7 +10,8 @@ use Rattle.dds_cluster.specs.declared.step.Step.{Step}
 use Rattle.dds_cluster.specs.declared.step.Step.TheVariants as step
 use Rattle.dds_cluster.specs.declared.trace.Caller.{Caller}
 use Rattle.dds_net.specs.Net.{Sizes, net, sizes_of}
-use Rattle.dds_net.specs.Event.{Event, nothing, unheard, unasked, brick_takes, brick_told, brick_stops, library_takes, library_asked, library_stops, Fits, asked_of, moved, opened_of, points_of, replies_of}
+use Rattle.dds_net.specs.Event.{Event, nothing, unheard, unasked, brick_takes, brick_told, brick_stops, library_takes, library_asked, library_stops, Fits}
+use Rattle.dds_net.specs.Event.{asked_of, moved, opened_of, points_of, replies_of}
 
 -- the step of the journal that an event is; nothing happens at a Post
 abbrev pub IsStepOf : Step → Event → Type 0
@@ -39,4 +40,6 @@ pub record IsMove (z : Sizes) (cs : List Caller) (place : ℕ) (w : World) (x : 
 -- of each step that is possible after a journal
 abbrev pub StepsAreMoves : Type 0
 StepsAreMoves =
-    (o : OpeningOf) (journal : List Step) (x : Step) → IsRanges (ranges_of o) → is_possible (run_of o journal) x ≡ true → IsMove (sizes_of o) (run_of o journal).callers (run_of o journal).steps (run_of o journal).world x (turn (run_of o journal).steps (run_of o journal).world x)
+    (o : OpeningOf) (journal : List Step) (x : Step) → IsRanges (ranges_of o) → is_possible (run_of o journal) x ≡ true
+    → IsMove (sizes_of o) (run_of o journal).callers (run_of o journal).steps (run_of o journal).world x
+    (turn (run_of o journal).steps (run_of o journal).world x)
