@@ -85,13 +85,13 @@ module _ {L : Sent} {M : Given} where
   outcome_row s txn commit = settled s (calls.dropped s txn) commit _ refl
 
   decides : (s : BrickState) (r : Resolving) → Tells L M s (resolution.decides s r)
-  decides s r = tells-then s (resolution.outcome_row s r.txn (resolution.verdict r)) _ (outcome_row s r.txn (resolution.verdict r)) (λ u. tells-sends u u _ refl (sent-each (unknown_others r.list u.number u.known) (letter.Outcome r.txn (resolution.verdict r)) (λ n. tt)))
+  decides s r = tells-then s (resolution.outcome_row s r.txn (resolution.verdict r)) _ (outcome_row s r.txn (resolution.verdict r)) (λ u. tells-sends u u _ refl (sent-each L (unknown_others r.list u.number u.known) (letter.Outcome r.txn (resolution.verdict r)) (λ n. tt)))
 
   resolves_on : (s : BrickState) (r : Resolving) → Tells L M s (resolution.resolves_on s r)
   resolves_on s r = tells-if _ (decides s r) (tells-still s _ refl)
 
   pub resolve : (s : BrickState) (txn : Txn) (list : List ℕ) → Tells L M s (resolution.resolve s txn list)
-  resolve s txn list = tells-then s _ _ (tells-sends s s _ refl (sent-each (unknown_others list s.number s.known) (letter.Query txn list) (λ n. tt))) (λ u. resolves_on u (resolution.started s txn list))
+  resolve s txn list = tells-then s _ _ (tells-sends s s _ refl (sent-each L (unknown_others list s.number s.known) (letter.Query txn list) (λ n. tt))) (λ u. resolves_on u (resolution.started s txn list))
 
   pub help_row : (s : BrickState) (from : NodeNo) (txn : Txn) (list : List ℕ) → Tells L M s (resolution.help_row s from txn list)
   help_row s from txn list = tells-if _ (tells-if _ (tells-still s s refl) (resolve s txn list)) (tells-still s _ refl)

@@ -40,6 +40,10 @@ abbrev pub lease_denial : BrickState → Wanted → Option Refusal
 lease_denial s (wanted.Name name) = lease_refusal s name None
 lease_denial s (wanted.Leaf leaf) = lease_refusal (takes.take s leaf) leaf.name (Some leaf.stamp)
 
+served : (s : BrickState) (o : OpenOrder) (made : Leaf) (t : Task) → who (own_order.serving s o made t) ≡ who s
+served s o made (task.Join via) = refl
+served s o made task.Split = refl
+
 module _ {L : Sent} {M : Given} where
   granted : (s : BrickState) (from : NodeNo) (order : ℕ) (name : Name) (leaf : Option Leaf) → Tells L M s (orders.granted s from order name leaf)
   granted s from order name None = tells-still s s refl
@@ -72,22 +76,18 @@ module _ {L : Sent} {M : Given} where
 
   -- it is over, and its leases are given back; the brick may serve other leaves from here on
   closes : (s u : BrickState) (o : OpenOrder) (b : Bool) (nodes : List NodeNo) (reply : OrderReply) → who u ≡ who s → GivesOrder M reply → Tells L M s (and_then (sends (record (if b then u else orders.releasing u o.name u.number) { order = None }) (to_each nodes (letter.Release o.number o.name))) (λ t. own_order.answers t reply))
-  closes s u o true nodes reply e h = tells-then s _ _ (tells-sends s (record u { order = None }) _ e (sent-each nodes (letter.Release o.number o.name) (λ n. tt))) (λ v. answers v reply h)
-  closes s u o false nodes reply e h = tells-then s _ _ (tells-sends s (record (orders.releasing u o.name u.number) { order = None }) _ e (sent-each nodes (letter.Release o.number o.name) (λ n. tt))) (λ v. answers v reply h)
+  closes s u o true nodes reply e h = tells-then s _ _ (tells-sends s (record u { order = None }) _ e (sent-each L nodes (letter.Release o.number o.name) (λ n. tt))) (λ v. answers v reply h)
+  closes s u o false nodes reply e h = tells-then s _ _ (tells-sends s (record (orders.releasing u o.name u.number) { order = None }) _ e (sent-each L nodes (letter.Release o.number o.name) (λ n. tt))) (λ v. answers v reply h)
 
   pub ends : (s : BrickState) (o : OpenOrder) (reply : OrderReply) → GivesOrder M reply → Tells L M s (own_order.ends s o reply)
   ends s o reply h = closes s s o _ (unknown o.asked s.known) reply refl h
-
-  served : (s : BrickState) (o : OpenOrder) (made : Leaf) (t : Task) → who (own_order.serving s o made t) ≡ who s
-  served s o made (task.Join via) = refl
-  served s o made task.Split = refl
 
   finishes : (s : BrickState) (o : OpenOrder) (made : Leaf) → Tells L M s (own_order.finishes s o made)
   finishes s o made = closes s (own_order.serving s o made o.task) o (is_join o.task) (unknown o.granted s.known) answered.Done (served s o made o.task) tt
 
   installs_from : (s u : BrickState) (o : OpenOrder) (made : Leaf) (nodes : List NodeNo) → who u ≡ who s → Tells L M s (own_order.installs_from u o made nodes)
   installs_from s u o made [] e = tells-from s u _ e (finishes u o made)
-  installs_from s u o made (n ∷ ns) e = tells-sends s _ _ e (sent-each (n ∷ ns) (letter.Install o.number made) (λ n. tt))
+  installs_from s u o made (n ∷ ns) e = tells-sends s _ _ e (sent-each L (n ∷ ns) (letter.Install o.number made) (λ n. tt))
 
   installs : (s : BrickState) (o : OpenOrder) (leaf : Leaf) → Tells L M s (own_order.installs s o leaf)
   installs s o leaf = installs_from s (record s { made = _ }) o _ _ refl
@@ -118,7 +118,7 @@ module _ {L : Sent} {M : Given} where
   join_order s name via = tells-if _ (answers s answered.Stopped tt) (tells-if _ (answers s answered.OrderOpen tt) (tells-if _ (answers s answered.AlreadyThere tt) (tells-if _ (answers s answered.NoSource tt) (tells-sends s _ _ refl (tt, tt)))))
 
   split_opens : (s : BrickState) (leaf : Leaf) → Tells L M s (own_order.split_opens s leaf)
-  split_opens s leaf = tells-then s _ _ (tells-sends s _ _ refl (sent-each (unknown_others leaf.list s.number s.known) (letter.Lease s.orders (wanted.Leaf leaf)) (λ n. tt))) (λ u. leases_on u (own_order.new_split s leaf))
+  split_opens s leaf = tells-then s _ _ (tells-sends s _ _ refl (sent-each L (unknown_others leaf.list s.number s.known) (letter.Lease s.orders (wanted.Leaf leaf)) (λ n. tt))) (λ u. leases_on u (own_order.new_split s leaf))
 
 -- what a split met at its own brick: a lease or a locked key stands in its way
 abbrev pub split_refusal : BrickState → Name → Option Refusal
@@ -168,20 +168,20 @@ order-silent s (the_order.Join brick name via) e = rw e refl
 order-silent s (the_order.Split brick name) e = rw e refl
 
 -- letters to the open order
+has-number : (number : ℕ) (test : OpenOrder → Bool) (o : Option OpenOrder) (x : OpenOrder) → own_order.is_at number test o ≡ true → o ≡ Some x → x.number ≡ number
+has-number number test None x h e = cc
+has-number number test (Some o) x h e = let is : o ≡ x = cc in eqb-true x.number number (and_parts (x.number == number) (test x) (rw is at h)).0
+
 module _ {L : Sent} {M : Given} where
   pub with_order : (s : BrickState) (row : BrickState → OpenOrder → BrickTurn) (o : Option OpenOrder) → ((t : BrickState) (x : OpenOrder) → o ≡ Some x → Tells L M t (row t x)) → Tells L M s (own_order.with_order s row o)
   with_order s row None h = tells-still s s refl
   with_order s row (Some o) h = tells-from s (record s { order = None }) _ refl (h (record s { order = None }) o refl)
 
-  has-number : (number : ℕ) (test : OpenOrder → Bool) (o : Option OpenOrder) (x : OpenOrder) → own_order.is_at number test o ≡ true → o ≡ Some x → x.number ≡ number
-  has-number number test None x h e = cc
-  has-number number test (Some o) x h e = let is : o ≡ x = cc in eqb-true x.number number (and_parts (x.number == number) (test x) (rw is at h)).0
-
   at_order : (s : BrickState) (number : ℕ) (test : OpenOrder → Bool) (row : BrickState → OpenOrder → BrickTurn) → ((t : BrickState) (x : OpenOrder) → s.order ≡ Some x → x.number ≡ number → Tells L M t (row t x)) → Tells L M s (own_order.at_order s number test row)
   at_order s number test row h = tells-when _ (λ k. with_order s row s.order (λ t x e. h t x e (has-number number test s.order x k e))) (tells-still s s refl)
 
   fixed : (s : BrickState) (o : OpenOrder) (from : NodeNo) (leaf : Leaf) → Tells L M s (own_order.fixed s o from leaf)
-  fixed s o from leaf = tells-then s _ _ (tells-sends s s _ refl (sent-each (unknown_others leaf.list from s.known) (letter.Lease o.number (wanted.Leaf leaf)) (λ n. tt))) (λ u. leases_on u (own_order.widened s o from leaf))
+  fixed s o from leaf = tells-then s _ _ (tells-sends s s _ refl (sent-each L (unknown_others leaf.list from s.known) (letter.Lease o.number (wanted.Leaf leaf)) (λ n. tt))) (λ u. leases_on u (own_order.widened s o from leaf))
 
   fixes : (s : BrickState) (o : OpenOrder) (from : NodeNo) (leaf : Leaf) → Tells L M s (own_order.fixes s o from leaf)
   fixes s o from leaf = tells-if _ (ends s o answered.Worn tt) (tells-if _ (ends s o answered.GroupFull tt) (fixed s o from leaf))

@@ -1,4 +1,4 @@
-use Rattle.std.proofs.Common.{◌≡◌, Bool, true, false, List, [], ◌∷◌, ◌++◌, refl, ◌∙◌}
+use Rattle.std.proofs.Common.{◌≡◌, Bool, true, false, List, [], ◌∷◌, refl, ◌∙◌}
 use Rattle.std.specs.List.{AllByRecursion}
 use Rattle.std.specs.Prelude.{ℕ, if◌then◌else◌}
 use Rattle.dds_base.specs.declared.node_set.NodeSet.{NodeSet}
@@ -6,6 +6,7 @@ use Rattle.dds_base.specs.declared.number.NodeNo.{NodeNo}
 use Rattle.dds_base.specs.declared.op.Met.{Met}
 use Rattle.dds_base.specs.declared.op.OrderReply.{OrderReply}
 use Rattle.dds_base.specs.declared.op.OrderReply.TheVariants as answered
+use Rattle.dds_core.proofs.Lists.{all-append}
 use Rattle.dds_letters.specs.declared.letter.Letter.{Letter}
 use Rattle.dds_letters.specs.declared.letter.Letter.TheVariants as letter
 use Rattle.dds_states.specs.Turn.{BrickTurn, and_then, sends, still, to_each}
@@ -57,13 +58,9 @@ pub record Tells (L : Sent) (M : Given) (s : BrickState) (t : BrickTurn) : Type 
   pub letters : AllSends L t.out.letters
   pub replies : AllByRecursion (Gives M) t.out.replies
 
-all-append : {X : Type 0} (P : X → Type 0) (xs ys : List X) → AllByRecursion P xs → AllByRecursion P ys → AllByRecursion P (xs ++ ys)
-all-append P [] ys h k = k
-all-append P (x ∷ xs) ys h k = (h.0, all-append P xs ys h.1 k)
-
-pub sent-each : {L : Sent} (nodes : List NodeNo) (l : Letter) → ((n : NodeNo) → Sends L n l) → AllSends L (to_each nodes l)
-sent-each [] l h = tt
-sent-each (n ∷ ns) l h = (h n, sent-each ns l h)
+pub sent-each : (L : Sent) (nodes : List NodeNo) (l : Letter) → ((n : NodeNo) → Sends L n l) → AllSends L (to_each nodes l)
+sent-each L [] l h = tt
+sent-each L (n ∷ ns) l h = (h n, sent-each L ns l h)
 
 -- turns that change other things alone
 pub tells-still : {L : Sent} {M : Given} (s u : BrickState) → who u ≡ who s → Tells L M s (still u)
@@ -97,10 +94,10 @@ is_notice other = false
 abbrev pub NoNotices : List (NodeNo × Letter) → Type 0
 NoNotices ls = AllByRecursion (λ (p : NodeNo × Letter). is_notice p.1 ≡ false) ls
 
-no-notice : {L : Sent} (to : NodeNo) (l : Letter) → Sends L to l → is_notice l ≡ false
-no-notice to letter.Notice h = absurd h
-no-notice to other h = refl
+no-notice : (L : Sent) (to : NodeNo) (l : Letter) → Sends L to l → is_notice l ≡ false
+no-notice L to letter.Notice h = absurd h
+no-notice L to other h = refl
 
-pub no-notices : {L : Sent} (ls : List (NodeNo × Letter)) → AllSends L ls → NoNotices ls
-no-notices [] h = tt
-no-notices (l ∷ ls) h = (no-notice l.0 l.1 h.0, no-notices ls h.1)
+pub no-notices : (L : Sent) (ls : List (NodeNo × Letter)) → AllSends L ls → NoNotices ls
+no-notices L [] h = tt
+no-notices L (l ∷ ls) h = (no-notice L l.0 l.1 h.0, no-notices L ls h.1)

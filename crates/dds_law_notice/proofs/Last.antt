@@ -33,7 +33,7 @@ use Rattle.dds_law_notice.specs.Law.{NoticesAreLast}
 new-view : (o : OpeningOf) (n : ℕ) (x : Node) → IsNew o n x → view x ≡ view nowhere
 new-view o n x (no_node e) = ap view e
 new-view o n x (new_a_brick e) = ap view e
-new-view o n x (new_a_library e) = ap view e
+new-view o n x (new_a_library high e) = ap view e
 
 new-link : (v w : View) (apart : Bool) (a : ℕ) (c : List Letter) → v ≡ view nowhere → w ≡ view nowhere → c ≡ [] → Link w.stopped c (v.stopped && apart) (knows w a)
 new-link v w apart a c e f g =

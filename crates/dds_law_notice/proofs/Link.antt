@@ -6,7 +6,7 @@ use Rattle.std.specs.Prelude.{if◌then◌else◌}
 use Rattle.dds_core.proofs.Tells.{is_notice}
 use Rattle.dds_letters.specs.declared.letter.Letter.{Letter}
 use Rattle.dds_letters.specs.declared.letter.Letter.TheVariants as letter
-use Rattle.dds_net.proofs.Pairwise.{all-append, all-front}
+use Rattle.dds_core.proofs.Lists.{all-append, all-front}
 use Rattle.dds_net.specs.Event.{IsFront}
 
 -- The invariant: what is on its way from a node to another one, by whether the sender has stopped, whether the receiver knows

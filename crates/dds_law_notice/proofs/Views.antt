@@ -1,4 +1,4 @@
-use Rattle.std.proofs.Common.{◌≡◌, ℕ, ◌<◌, ◌==◌, ◌||◌, Bool, true, false, List, [], ◌∷◌, refl, sym, ap, ◌∙◌, subst, arith}
+use Rattle.std.proofs.Common.{◌≡◌, ℕ, ◌-◌, ◌<◌, ◌≤◌, ◌==◌, ◌||◌, Bool, true, false, List, [], ◌∷◌, refl, sym, ap, ◌∙◌, subst, arith}
 use Rattle.std.proofs.lemmas.Bool.{both_ways, cases_Bool, eq-eqb, ne_eqb, or_left}
 use Rattle.std.proofs.lemmas.Bool.Decides.{nat_tests}
 use Rattle.std.proofs.lemmas.Nat.Bits.{bit_at-zero}
@@ -65,7 +65,7 @@ pub record Does (x y : Node) (ls : List (NodeNo × Letter)) : Type 0 where
   pub still : (view x).stopped ≡ true → ls ≡ []
 
 -- a brick's turn
-of_who : Who → View
+abbrev of_who : Who → View
 of_who w = record { stopped = w.stopped; known = w.known }
 
 brick-heard : (s : BrickState) (from : NodeNo) (l : Letter) → of_who (who (heard s from l)) ≡ learns from l (view (a_brick s))
@@ -73,10 +73,10 @@ brick-heard s from letter.Notice = refl
 brick-heard s from other = refl
 
 pub brick-takes : (s : BrickState) (from : NodeNo) (l : Letter) → s.stopped ≡ false → Takes from l (a_brick s) (a_brick (live_brick_turn s from l).state) (live_brick_turn s from l).out.letters
-brick-takes s from l live = let t = letter-tells s from l in record { live = live; after = ap of_who t.same ∙ brick-heard s from l; silent = no-notices _ t.letters }
+brick-takes s from l live = let t = letter-tells s from l in record { live = live; after = ap of_who t.same ∙ brick-heard s from l; silent = no-notices _ _ t.letters }
 
 pub brick-does : (s : BrickState) (o : Order) → Does (a_brick s) (a_brick (brick_input s o).state) (brick_input s o).out.letters
-brick-does s o = let t = order-tells {L = λ to l. Unit {0}} s o in record { after = ap of_who t.same; silent = no-notices _ t.letters; still = order-silent s o }
+brick-does s o = let t = order-tells {L = λ to l. Unit {0}} s o in record { after = ap of_who t.same; silent = no-notices _ _ t.letters; still = order-silent s o }
 
 -- a library's turn
 each-silent : (ns : List NodeNo) (l : Letter) → is_notice l ≡ false → NoNotices (to_each ns l)

@@ -4,7 +4,7 @@ use Rattle.std.specs.Prelude.{drop, if◌then◌else◌}
 use Rattle.dds_base.specs.declared.number.NodeNo.{NodeNo}
 use Rattle.dds_letters.specs.declared.letter.Letter.{Letter}
 use Rattle.dds_letters.specs.declared.letter.Letter.TheVariants as letter
-use Rattle.dds_net.proofs.Pairwise.{all-append, all-front, all-map}
+use Rattle.dds_core.proofs.Lists.{all-append, all-front, all-map}
 use Rattle.dds_net.proofs.Puts.{if-keeps, pairs-changed}
 use Rattle.dds_net.specs.Event.{IsFront, IsFirst, does, notice_to, stops, takes, without_first}
 use Rattle.dds_net.specs.Net.{Net, Node, Sizes, changed, gains, is_in, landing, lands, when_in}

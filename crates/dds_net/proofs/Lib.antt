@@ -15,7 +15,6 @@ pub mod Ways
 pub mod Letters
 pub mod OneWay
 pub mod PairTakes
-pub mod CallTurns
 pub mod BrickFolds
 pub mod Carried
 pub mod Journals

@@ -1,4 +1,5 @@
-use Rattle.std.proofs.Common.{◌≡◌, ℕ, zero, suc, ◌+◌, ◌-◌, ◌&&◌, ◌++◌, Bool, true, false, Option, None, List, [], refl, ap, ◌∙◌, arith}
+use Rattle.std.proofs.Common.{◌≡◌, ℕ, zero, suc, ◌+◌, ◌-◌, ◌≤◌, ◌&&◌, ◌++◌, Bool, true, false, Option, None, List, [], refl, ap, ◌∙◌, arith}
+use Rattle.std.proofs.lemmas.Bool.Decides.{nat_tests}
 use Rattle.std.specs.Prelude.{nat_lt, replicate, slice_get, slice_index_or, if◌then◌else◌}
 use Rattle.dds_script.specs.Opening.{OpeningOf}
 use Rattle.dds_states.specs.declared.library_state.LibraryState.{LibraryState}
@@ -12,24 +13,24 @@ use Rattle.dds_net.specs.Net.{Node, nowhere, a_brick, a_library, channel, is_in,
 pub data IsNew (o : OpeningOf) (n : ℕ) (x : Node) : Type 0 where
   no_node : x ≡ nowhere → IsNew o n x
   new_a_brick : x ≡ a_brick (new_brick o.leaves n) → IsNew o n x
-  new_a_library : x ≡ a_library (new_library o (n - 64)) → IsNew o n x
+  new_a_library : 64 ≤ n → x ≡ a_library (new_library o (n - 64)) → IsNew o n x
 
 bricks-new : (o : OpeningOf) (c first i n : ℕ) (y : Option LibraryState) → first + i ≡ n → IsNew o n (node_in None y) → IsNew o n (node_in (slice_get (new_bricks o.leaves c first) i) y)
 bricks-new o zero first i n y e h = h
 bricks-new o (suc c) first zero n y e h = let k : first ≡ n = omega (arith, e) in new_a_brick (ap (λ j. a_brick (new_brick o.leaves j)) k)
 bricks-new o (suc c) first (suc i) n y e h = bricks-new o c (first + 1) i n y (omega (arith, e)) h
 
-libraries-new : (o : OpeningOf) (c first i n : ℕ) → first + i ≡ n - 64 → IsNew o n (node_in None (slice_get (new_libraries o c first) i))
-libraries-new o zero first i n e = no_node refl
-libraries-new o (suc c) first zero n e = let k : first ≡ n - 64 = omega (arith, e) in new_a_library (ap (λ j. a_library (new_library o j)) k)
-libraries-new o (suc c) first (suc i) n e = libraries-new o c (first + 1) i n (omega (arith, e))
+libraries-new : (o : OpeningOf) (c first i n : ℕ) → 64 ≤ n → first + i ≡ n - 64 → IsNew o n (node_in None (slice_get (new_libraries o c first) i))
+libraries-new o zero first i n high e = no_node refl
+libraries-new o (suc c) first zero n high e = let k : first ≡ n - 64 = omega (arith, e) in new_a_library high (ap (λ j. a_library (new_library o j)) k)
+libraries-new o (suc c) first (suc i) n high e = libraries-new o c (first + 1) i n high (omega (arith, e))
 
-new-if : (o : OpeningOf) (n : ℕ) (low : Bool) → IsNew o n (node_in (if low then slice_get (new_bricks o.leaves o.bricks 0) n else None) (if low then None else slice_get (new_libraries o o.libraries 0) (n - 64)))
-new-if o n true = bricks-new o o.bricks 0 n n None (omega arith) (no_node refl)
-new-if o n false = libraries-new o o.libraries 0 (n - 64) n (omega arith)
+new-if : (o : OpeningOf) (n : ℕ) (low : Bool) → nat_lt n 64 ≡ low → IsNew o n (node_in (if low then slice_get (new_bricks o.leaves o.bricks 0) n else None) (if low then None else slice_get (new_libraries o o.libraries 0) (n - 64)))
+new-if o n true e = bricks-new o o.bricks 0 n n None (omega arith) (no_node refl)
+new-if o n false e = libraries-new o o.libraries 0 (n - 64) n (grind (arith, nat_tests, e)) (omega arith)
 
 pub start-node : (o : OpeningOf) (n : ℕ) → IsNew o n ((net (sizes_of o) (start o).world).node n)
-start-node o n = new-if o n (nat_lt n 64)
+start-node o n = new-if o n (nat_lt n 64) refl
 
 -- nothing is on its way
 nothing-there : {X : Type 0} (n i : ℕ) (d : X) → slice_index_or (replicate n d) i d ≡ d

@@ -12,7 +12,8 @@ use Rattle.dds_cluster.specs.World.{World, all_nodes, numbered, place}
 use Rattle.dds_net.specs.Event.{IsFront, IsLeft, notice_to, stops}
 use Rattle.dds_net.specs.Net.{Node, Sizes, box, changed, channel_at, is_in, landing, lane, letters_of, net, node_at, place_in, put, sent, when_in}
 use Rattle.dds_net.proofs.Nets.{landing-is, letters-append, net-is, same-channel}
-use Rattle.dds_net.proofs.Pairwise.{Pairwise, all-append, all-filter, pairs-append, pairs-filter}
+use Rattle.dds_core.proofs.Lists.{all-append, all-filter}
+use Rattle.dds_net.proofs.Pairwise.{Pairwise, pairs-append, pairs-filter}
 use Rattle.dds_net.proofs.Places.{high-in, in-parts, low-in, one-place, place-below, place-is}
 use Rattle.dds_net.proofs.Projections.{each-landing}
 use Rattle.dds_net.proofs.Puts.{is-changed}
