@@ -118,7 +118,7 @@ module _ {L : Sent} {M : Given} where
   join_order s name via = tells-if _ (answers s answered.Stopped tt) (tells-if _ (answers s answered.OrderOpen tt) (tells-if _ (answers s answered.AlreadyThere tt) (tells-if _ (answers s answered.NoSource tt) (tells-sends s _ _ refl (tt, tt)))))
 
   split_opens : (s : BrickState) (leaf : Leaf) → Tells L M s (own_order.split_opens s leaf)
-  split_opens s leaf = tells-then s _ _ (tells-sends s _ _ refl (sent-each L (unknown_others leaf.list s.number s.known) (letter.Lease s.orders (wanted.Leaf leaf)) (λ n. tt))) (λ u. leases_on u (own_order.new_split s leaf))
+  split_opens s leaf = tells-then s _ _ (tells-sends s (record (orders.leasing s leaf.name s.number) { orders = s.orders + 1 }) _ refl (sent-each L (unknown_others leaf.list s.number s.known) (letter.Lease s.orders (wanted.Leaf leaf)) (λ n. tt))) (λ u. leases_on u (own_order.new_split s leaf))
 
 -- what a split met at its own brick: a lease or a locked key stands in its way
 abbrev pub split_refusal : BrickState → Name → Option Refusal
