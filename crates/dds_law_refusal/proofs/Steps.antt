@@ -136,7 +136,7 @@ done o journal x (brick_told at ord s) few g next =
     let tells = order-tells {L = NoneSaid} s ord in
     record {
       becomes = (λ txn caller call tie. tt, ap (λ (w : Who). w.number) tells.same ∙ own);
-      sends = λ last. order-news o (Grown journal x) _ (sizes_of o) at (brick_input s ord).out.letters tells.letters;
+      sends = λ last. order-news o (Grown journal x) (moved (sizes_of o) n (brick_told at ord s)) (sizes_of o) at (brick_input s ord).out.letters tells.letters;
       replies = input-replies o journal x at s ord (brick_input s ord).out.replies next.step f.here own f.may tells.replies;
     }
 done o journal x (brick_stops at s kept) few g next =
