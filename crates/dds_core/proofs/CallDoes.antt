@@ -37,6 +37,7 @@ use Rattle.dds_states.specs.declared.library_state.OpenCall.{OpenCall}
 use Rattle.dds_states.specs.declared.library_state.Phase.{Phase}
 use Rattle.dds_states.specs.declared.library_state.Phase.TheVariants as phase
 use Rattle.dds_states.specs.declared.library_state.Request.{Request}
+use Rattle.dds_states.specs.declared.library_state.TheConstants.{RETRIES}
 use Rattle.dds_trie.specs.Trie.{LeafMap, put}
 
 -- All that a letter can do to an open call, one constructor for each outcome, with what was found on the way.
@@ -109,7 +110,7 @@ OfStops M = (m : Met) → IsStop m → M m
 begins-with : (M : Met → Type 0) (d : Desk) (r : Request) (leaf : Leaf) (ms : List NodeNo) → OfStops M → leaf_for d.map (the_key r.op) ≡ Some leaf → unknown leaf.list d.known ≡ ms → Begins M d r (begins_with d r leaf ms)
 begins-with M d r leaf [] s e f =
     let m = met.Stopped (slice_index leaf.list 0) in
-    begins-if M d r m (r.retries == 3) (s m (record { brick = slice_index leaf.list 0; is = refl }))
+    begins-if M d r m (r.retries == RETRIES) (s m (record { brick = slice_index leaf.list 0; is = refl }))
 begins-with M d r leaf (m ∷ ms) s e f = begins-op M d r leaf m ms r.op e f refl
 
 begins-at : (M : Met → Type 0) (d : Desk) (r : Request) (o : Option Leaf) → OfStops M → leaf_for d.map (the_key r.op) ≡ o → Begins M d r (begins_at d r o)
@@ -132,7 +133,7 @@ again {from = from} {l = l} d c map retries pushed =
 
 does-ask : {from : NodeNo} {l : Letter} (d : Desk) (c : OpenCall) (m : Met) → Meets c from l m → CallDoes d c from l (ask d c.request m)
 does-ask {from = from} {l = l} d c m h =
-    tries d.map c.request.retries c.request.pushed [] (ask d c.request m) tt (begins-if (Meets c from l) d c.request m (c.request.retries == 3) h)
+    tries d.map c.request.retries c.request.pushed [] (ask d c.request m) tt (begins-if (Meets c from l) d c.request m (c.request.retries == RETRIES) h)
 
 ends : {from : NodeNo} {l : Letter} (d : Desk) (c : OpenCall) (m : Met) → Meets c from l m → CallDoes d c from l (replies d (reply.Again m))
 ends d c m h = tries d.map c.request.retries c.request.pushed [] (replies d (reply.Again m)) tt (gives_up m h)
@@ -149,7 +150,7 @@ does-repairs {from = from} {l = l} d c to theirs (Some mine) =
 does-stale : {from : NodeNo} {l : Letter} (d : Desk) (c : OpenCall) (to : NodeNo) (leaf : Option Leaf) → Meets c from l (met.Stale to) → CallDoes d c from l (stale d c.request to leaf)
 does-stale d c to None h = does-ask d c (met.Stale to) h
 does-stale d c to (Some theirs) h =
-    if-does (c.request.retries == 3) _ _ (λ e. ends d c (met.Stale to) h) (λ e. does-repairs d c to theirs (leaf_for d.map (the_key c.request.op)))
+    if-does (c.request.retries == RETRIES) _ _ (λ e. ends d c (met.Stale to) h) (λ e. does-repairs d c to theirs (leaf_for d.map (the_key c.request.op)))
 
 does-refused : {from : NodeNo} {l : Letter} (d : Desk) (c : OpenCall) (to : NodeNo) (why : Refusal) → Meets c from l (met_of why to) → CallDoes d c from l (refused d c.request to why)
 does-refused d c to refusal.Lease h = ends d c (met.Lease to) h

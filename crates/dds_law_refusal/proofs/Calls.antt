@@ -58,8 +58,8 @@ pub record Hears (o : OpeningOf) (journal : List Step) (n : Net) (at : ℕ) (old
 
 -- the open call with the letter's attempt is the call to which the attempt is tied
 its-txn : (l : Letter) (c : OpenCall) (txn : Txn) → Concerns l c → attempt_of l ≡ Some txn → (l ≡ letter.Notice → ⊥) → txn ≡ c.txn
-its-txn l c txn (its_attempt e) is no = let same = sym is ∙ e in cc
-its-txn l c txn (a_notice e) is no = absurd (no e)
+its-txn l c txn (its_attempt e) is other = let same = sym is ∙ e in cc
+its-txn l c txn (a_notice e) is other = absurd (other e)
 
 tied-call : (n : Net) (at : ℕ) (old : LibraryState) (c : OpenCall) (txn : Txn) (a : ℕ) (b : CallNo) → n.node at ≡ a_library old → old.number ≡ at → IsHeld old c → txn ≡ c.txn → TiedIn n txn a b → (c.request.caller ≡ a) × (c.request.call ≡ b)
 tied-call n at old c txn a b here number held e tie =
@@ -69,7 +69,7 @@ tied-call n at old c txn a b here number held e tie =
 got-met : (o : OpeningOf) (journal : List Step) (n : Net) (at : ℕ) (old : LibraryState) (from to : NodeNo) (l : Letter) (c : OpenCall) (txn : Txn) (why : Refusal) → Hears o journal n at old from to l → Concerns l c → IsHeld old c → l ≡ letter.Got txn (answer.Refused why) → WasMet o journal c.request.caller c.request.call (met_of why from)
 got-met o journal n at old from to l c txn why h concerns held is =
     let f = subst (LetterOk o journal n from to) is h.says in
-    let mine = its-txn l c txn concerns (ap attempt_of is) (λ no. let k = sym is ∙ no in cc) in
+    let mine = its-txn l c txn concerns (ap attempt_of is) (λ e. let k = sym is ∙ e in cc) in
     let same = tied-call n at old c txn f.0.caller f.0.call h.here h.number held mine f.1 in
     was-met o journal c.request.caller c.request.call from why
     (inl (record { brick = from; txn = txn; why = why; was = f.0; caller_is = sym same.0; call_is = sym same.1; met = refl }))
@@ -77,7 +77,7 @@ got-met o journal n at old from to l c txn why h concerns held is =
 vote-denied : (o : OpeningOf) (journal : List Step) (n : Net) (at : ℕ) (old : LibraryState) (from to : NodeNo) (l : Letter) (c : OpenCall) (txn : Txn) (why : Denial) → Hears o journal n at old from to l → Concerns l c → IsHeld old c → l ≡ letter.Vote txn (ballot.No why) → WasDenied o journal c.txn c.request.caller c.request.call from why
 vote-denied o journal n at old from to l c txn why h concerns held is =
     let f = subst (LetterOk o journal n from to) is h.says in
-    let mine = its-txn l c txn concerns (ap attempt_of is) (λ no. let k = sym is ∙ no in cc) in
+    let mine = its-txn l c txn concerns (ap attempt_of is) (λ e. let k = sym is ∙ e in cc) in
     let same = tied-call n at old c txn f.0.caller f.0.call h.here h.number held mine f.1 in
     subst (λ t. WasDenied o journal t c.request.caller c.request.call from why) mine (f.0, sym same.0, sym same.1)
 

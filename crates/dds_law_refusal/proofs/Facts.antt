@@ -1,4 +1,4 @@
-use Rattle.std.proofs.Common.{◌≡◌, ℕ, ◌≤◌, true, Some, List, [], ◌∷◌, ◌++◌, drop, length, refl, sym, ap, ◌∙◌, subst}
+use Rattle.std.proofs.Common.{◌≡◌, ℕ, ◌≤◌, true, Some, List, [], ◌∷◌, ◌++◌, drop, length, refl, sym, ap, ◌∙◌, subst, arith}
 use Rattle.std.specs.List.{AllByRecursion}
 use Rattle.std.specs.Prelude.{slice_get, take}
 use Rattle.dds_base.specs.declared.number.NodeNo.{NodeNo}
@@ -37,7 +37,7 @@ use Rattle.dds_law_refusal.proofs.Steps.{done, good-kept}
 new-ok : (o : OpeningOf) (k : ℕ) (x : Node) → IsNew o k x → NodeOk o [] k x
 new-ok o k x (no_node e) = subst (NodeOk o [] k) (sym e) tt
 new-ok o k x (new_a_brick e) = subst (NodeOk o [] k) (sym e) refl
-new-ok o k x (new_a_library high e) = subst (NodeOk o [] k) (sym e) (high, tt)
+new-ok o k x (new_a_library high e) = subst (NodeOk o [] k) (sym e) (omega (arith, high), tt)
 
 start-good : (o : OpeningOf) → IsGood o [] (net_of o [])
 start-good o =

@@ -105,11 +105,22 @@ brick-takes o journal x at from l s few g next =
     let n = net_of o journal in
     let f = next.fits in
     let t = live_brick_turn s from l in
+    let u = moved (sizes_of o) n (brick_takes at from l s) in
     let tells = letter-tells s from l in
-    let now = (λ (u : Net) (last : AllLast n u). let it : TakesNow o journal x u at from l s = record { few = few; possible = next.possible; step = next.step; first = f.letter; here = f.here; live = f.live; says = heard o journal x n u at from l (a_brick s) g f last } in it) in
+    let now = (λ (v : Net) (last : AllLast n v).
+    let it : TakesNow o journal x v at from l s = record {
+      few = few;
+      possible = next.possible;
+      step = next.step;
+      first = f.letter;
+      here = f.here;
+      live = f.live;
+      says = heard o journal x n v at from l (a_brick s) g f last;
+    } in
+    it) in
     record {
       becomes = (λ txn caller call tie. tt, heard-number s from l t.state (ap (λ (w : Who). w.number) tells.same) ∙ own-number o journal n at s g f.here);
-      sends = λ last. turn-news o journal x _ at from l s t.out.letters (now _ last) tells.letters;
+      sends = λ last. turn-news o journal x u at from l s t.out.letters (now u last) tells.letters;
       replies = turn-replies o journal x n at from l s t.out.replies (now n (λ k txn caller call tie. tie)) tells.replies;
     }
 
@@ -125,7 +136,7 @@ done o journal x (brick_told at ord s) few g next =
     let tells = order-tells {L = NoneSaid} s ord in
     record {
       becomes = (λ txn caller call tie. tt, ap (λ (w : Who). w.number) tells.same ∙ own);
-      sends = λ last. order-news o (Grown journal x) _ (sizes_of o) at (brick_input s ord).out.letters tells.letters;
+      sends = λ last. order-news o (Grown journal x) (moved (sizes_of o) n (brick_told at ord s)) (sizes_of o) at (brick_input s ord).out.letters tells.letters;
       replies = input-replies o journal x at s ord (brick_input s ord).out.replies next.step f.here own f.may tells.replies;
     }
 done o journal x (brick_stops at s kept) few g next =

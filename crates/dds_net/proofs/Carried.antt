@@ -100,9 +100,9 @@ pub letters-moved : (P : Carried) (z : Sizes) (cs : List Caller) (n : Net) (e : 
 letters-moved P z cs n nothing f g h = g
 letters-moved P z cs n (unasked at caller call o) f g h = g
 letters-moved P z cs n (unheard at from l) f g h = takes-carried P z n at from (n.node at) [] (λ b e. tt) g
-letters-moved P z cs n (brick_takes at from l s) f g h = takes-carried P z n at from _ _ h g
-letters-moved P z cs n (brick_told at o s) f g h = does-carried P z n at _ _ h g
-letters-moved P z cs n (brick_stops at s kept) f g h = stops-carried P z n at _ kept f.left h g
-letters-moved P z cs n (library_takes at from l s) f g h = takes-carried P z n at from _ _ h g
-letters-moved P z cs n (library_asked at caller call o s) f g h = does-carried P z n at _ _ h g
-letters-moved P z cs n (library_stops at s kept) f g h = stops-carried P z n at _ kept f.left h g
+letters-moved P z cs n (brick_takes at from l s) f g h = takes-carried P z n at from (a_brick (live_brick_turn s from l).state) _ h g
+letters-moved P z cs n (brick_told at o s) f g h = does-carried P z n at (a_brick (brick_input s o).state) _ h g
+letters-moved P z cs n (brick_stops at s kept) f g h = stops-carried P z n at (a_brick (emptied s.number)) kept f.left h g
+letters-moved P z cs n (library_takes at from l s) f g h = takes-carried P z n at from (a_library (live_library_turn s from l).state) _ h g
+letters-moved P z cs n (library_asked at caller call o s) f g h = does-carried P z n at (a_library (asked_turn s caller call o).state) _ h g
+letters-moved P z cs n (library_stops at s kept) f g h = stops-carried P z n at (a_library (record s { stopped = true })) kept f.left h g

@@ -7,7 +7,7 @@ use Rattle.std.specs.Prelude.{slice_get, take, if◌then◌else◌}
 use Rattle.dds_base.specs.declared.number.NodeNo.{NodeNo}
 use Rattle.dds_cluster.specs.Trace.{has_first, is_possible, is_run, is_run_from, next, replies_in, run_of, start, trace_from}
 use Rattle.dds_cluster.specs.Turn.{turn}
-use Rattle.dds_cluster.specs.World.{World, brick_at, is_node, link}
+use Rattle.dds_cluster.specs.World.{World, brick_at, is_node, link, place}
 use Rattle.dds_cluster.specs.declared.step.Message.{Message}
 use Rattle.dds_cluster.specs.declared.step.Step.{Step}
 use Rattle.dds_cluster.specs.declared.step.Step.TheVariants as step
@@ -155,7 +155,7 @@ brick-of w n s h = brick-if w n s (node-is w n) h
 pub brick-now : (o : OpeningOf) (journal : List Step) (x : Step) (n : ℕ) (s : BrickState) → (net_of o journal).node n ≡ a_brick s → brick_at (world_at o (Grown journal x) (length journal)) n ≡ Some s
 brick-now o journal x n s here = ap (λ (v : World). brick_at v n) (world-now o journal (x ∷ [])) ∙ brick-of (run_of o journal).world n s here
 
-record FirstOn (ms : List Message) (l : Letter) : Type 0 where
+pub record FirstOn (ms : List Message) (l : Letter) : Type 0 where
   pub message : Message
   pub first : slice_get ms 0 ≡ Some message
   pub letter : message.letter ≡ l
@@ -164,14 +164,14 @@ first-on : (ms more : List Message) (l : Letter) (others : List Letter) → has_
 first-on [] more l others h e = cc
 first-on (m ∷ ms) more l others h e = record { message = m; first = refl; letter = cc }
 
-first-of : (o : OpeningOf) (journal : List Step) (n from : NodeNo) (l : Letter) → is_possible (run_of o journal) (step.Handle n from) ≡ true → IsFirst (sizes_of o) (net_of o journal) n from l → FirstOn (link (run_of o journal).world from n) l
+pub first-of : (o : OpeningOf) (journal : List Step) (n from : NodeNo) (l : Letter) → is_possible (run_of o journal) (step.Handle n from) ≡ true → IsFirst (sizes_of o) (net_of o journal) n from l → FirstOn (link (run_of o journal).world from n) l
 first-of o journal n from l p f =
     let w = (run_of o journal).world in
     let z = sizes_of o in
     let g = sized-run o journal in
     let i = place_in z.bricks from in
     let j = place_in z.bricks n in
-    let at : link w from n ≡ lane w i j = ap (λ p. lane w p _) (place-is z w from g) ∙ ap (lane w i) (place-is z w n g) in
+    let at : link w from n ≡ lane w i j = ap (λ p. lane w p (place w n)) (place-is z w from g) ∙ ap (lane w i) (place-is z w n g) in
     let may = and_parts (is_node w from) (has_first (link w from n)) (and_parts (is_node w n) (is_node w from && has_first (link w from n)) p).1 in
     let whole = sym (channel-is z w from n f.sender f.receiver) ∙ f.first in
     subst (λ ms. FirstOn ms l) (sym at) (first-on (lane w i j) (sent z.bricks j (box w i)) l f.others (ap has_first (sym at) ∙ may.1) whole)
