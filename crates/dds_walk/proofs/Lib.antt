@@ -5,7 +5,9 @@ pub mod Sizes
 pub mod Counted
 pub mod Picked
 pub mod Walked
-pub mod Plain
+pub mod Along
+pub mod AlongSteps
+pub mod AlongLines
 pub mod Entries
 pub mod Rank
 pub mod Changed
