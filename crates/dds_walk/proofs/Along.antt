@@ -51,7 +51,7 @@ IsNoCall (step.Stop node) = Unit {0}
 
 -- so many callers have counts, and the calls that were made are counted
 pub record IsNumbered (callers : ℕ) (w : Walk) : Type 0 where
-  pub callers : length w.counts ≡ callers
+  pub size : length w.counts ≡ callers
   pub asked : AreCalls w.counts w.trace.asked
 
 -- what a walk alone makes on the way to another, whose calls are none of those that were counted; and what is done along
@@ -136,7 +136,7 @@ goes-after callers w v x does to after at g s c r t h =
       steps = s ∙ g.steps;
       rest = r ∙ g.rest;
       numbered = record {
-        callers = ap length c ∙ g.numbered.callers;
+        size = ap length c ∙ g.numbered.size;
         asked = subst (λ (counts : List ℕ). AreCalls counts x.trace.asked) (sym c) (subst (λ (y : Trace). AreCalls v.counts y.asked) (sym t) g.numbered.asked);
       };
       later = g.later;

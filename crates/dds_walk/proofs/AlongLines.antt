@@ -55,7 +55,7 @@ grown-later ns i (x ∷ xs) h = (grown-step ns i x h.0, grown-later ns i xs h.1)
 
 numbered-counted : (callers : ℕ) (w : Walk) (caller : ℕ) → IsNumbered callers w → IsNumbered callers (counted w caller)
 numbered-counted callers w caller k =
-    record { callers = length-set w.counts caller _ ∙ k.callers; asked = grown-asked w.counts caller w.trace.asked k.asked }
+    record { size = length-set w.counts caller _ ∙ k.size; asked = grown-asked w.counts caller w.trace.asked k.asked }
 
 -- a call that isn't counted wasn't made
 other-call : (a b m n : ℕ) (ns : List ℕ) → m < slice_index_or ns a 0 → n ≡ slice_index_or ns b 0 → (a == b && m == n) ≡ false
@@ -145,7 +145,7 @@ goes-caller o w caller op c true g k e =
       made = [];
       steps = sym (append-nil w.steps);
       rest = g.rest;
-      numbered = record { callers = n.callers; asked = n.asked };
+      numbered = record { size = n.size; asked = n.asked };
       later = tt;
       grows = λ tail h. grown-later w.counts caller tail h;
       same = λ tail h. call-busy (along u tail) caller call tail new (not-later u.counts caller call tail (omega (arith, here)) h);
@@ -162,7 +162,7 @@ goes-caller o w caller op c false g k e =
       made = s ∷ [];
       steps = refl;
       rest = g.rest;
-      numbered = record { callers = n.callers; asked = asked-next u.counts u.trace s n.asked (omega (arith, here), tt) };
+      numbered = record { size = n.size; asked = asked-next u.counts u.trace s n.asked (omega (arith, here), tt) };
       later = (omega arith, tt);
       grows = λ tail h. grown-later w.counts caller tail h;
       same = λ tail h. call-made (along u (s ∷ tail)) caller call s tail new its;
@@ -173,7 +173,7 @@ goes-there : (o : OpeningOf) (w : Walk) (caller : CallerNo) (op : Op) (c : Optio
     → Goes o.callers w (call_alone (counted w caller) caller (next_call w caller) op c) (λ rest. call_line (along w rest) caller op)
     (along (call_alone (counted w caller) caller (next_call w caller) op c))
 goes-there o w caller op None there g k e =
-    absurd (caller-there w.trace.callers w.counts caller g.counted (omega (arith, there, k.callers)) e)
+    absurd (caller-there w.trace.callers w.counts caller g.counted (omega (arith, there, k.size)) e)
 goes-there o w caller op (Some c) there g k e = goes-caller o w caller op c (is_some c.call) g k e
 
 goes-call : (o : OpeningOf) (w : Walk) (caller : CallerNo) (op : Op)
@@ -194,7 +194,7 @@ goes-step-line : (callers : ℕ) (w : Walk) (s : Step) (refusal : ReportLine) (p
 goes-step-line callers w s refusal true silent e k = goes-tries callers w s e silent k
 goes-step-line callers w s refusal false silent e k =
     goes-nowhere callers w (says w refusal) (λ rest. says (along w rest) refusal) (along (says w refusal)) refl refl e
-    (record { callers = k.callers; asked = k.asked }) (λ tail. refl)
+    (record { size = k.size; asked = k.asked }) (λ tail. refl)
 
 -- what `quiet` says
 abbrev quiet_by : Moved → Bool → Walk → Walk
@@ -233,7 +233,7 @@ goes-line o limit w (line.Join brick name via) h g k =
 goes-line o limit w (line.Split brick name) h g k =
     goes-tries o.callers w (step.Input brick (input.Order (order.Split brick name))) g.rest tt k
 goes-line o limit w (line.Pick picker) h g k =
-    goes-aside o.callers w (λ x. record x { picking = begun picker }) refl refl g.rest (record { callers = k.callers; asked = k.asked }) (λ tail. refl)
+    goes-aside o.callers w (λ x. record x { picking = begun picker }) refl refl g.rest (record { size = k.size; asked = k.asked }) (λ tail. refl)
 goes-line o limit w (line.Events n) h g k = goes-events o.callers n w g.rest k
 goes-line o limit w line.Quiet h g k =
     let m = moves limit 0 w in
@@ -243,7 +243,7 @@ goes-line o limit w (line.Post node) h g k =
 goes-line o limit w (line.Take node from) h g k =
     goes-step-line o.callers w (step.Handle node from) report.NoTake (is_possible w.trace (step.Handle node from)) tt g.rest k
 goes-line o limit w (line.Show brick) h g k =
-    goes-aside o.callers w (λ x. show_line x brick) refl refl g.rest (record { callers = k.callers; asked = k.asked }) (λ tail. refl)
+    goes-aside o.callers w (λ x. show_line x brick) refl refl g.rest (record { size = k.size; asked = k.asked }) (λ tail. refl)
 goes-line o limit w line.Nothing h g k = goes-aside o.callers w (λ x. x) refl refl g.rest k (λ tail. refl)
 
 goes-lines : (o : OpeningOf) (limit : ℕ) (w : Walk) (ls : List Line)
@@ -265,7 +265,7 @@ lines-alone limit script r h =
     let o = script.opening in
     let w = first_walk script None in
     let v = lines_done limit w script.lines in
-    let k : IsNumbered o.callers w = record { callers = length-replicate o.callers 0; asked = tt } in
+    let k : IsNumbered o.callers w = record { size = length-replicate o.callers 0; asked = tt } in
     let g = goes-lines o limit w script.lines r.bricks h (walked-first script) k in
     let all : v.steps ≡ g.made ++ [] = g.steps ∙ sym (append-nil g.made) in
     let same : lines_done limit (along w v.steps) script.lines ≡ along v [] =

@@ -50,7 +50,7 @@ lead-first s rest = ap (λ (b : Bool). if b then Next else lead_behind s rest s)
 
 pub numbered-played : (callers : ℕ) (w : Walk) (s : Step) → IsNoCall s → IsNumbered callers w → IsNumbered callers (played w s)
 numbered-played callers w s silent n =
-    record { callers = n.callers; asked = asked-next w.counts w.trace s n.asked (asked-no-call w.counts w.trace.steps s silent) }
+    record { size = n.size; asked = asked-next w.counts w.trace s n.asked (asked-no-call w.counts w.trace.steps s silent) }
 
 -- a step that is no call
 pub goes-tries : (callers : ℕ) (w : Walk) (s : Step) → w.rest ≡ None → IsNoCall s → IsNumbered callers w → GoesBy callers w (λ x. tries x s)
@@ -61,7 +61,7 @@ goes-tries callers w s e silent n =
     subst (λ (v : Walk). Goes callers w v (λ rest. tries (along w rest) s) (along v)) (sym is)
     (goes-step callers w x x s (λ rest. tries (along w rest) s) (λ (v : Walk). v) (along x) refl refl silent
     (λ rest. ap (λ (l : Lead). or_stays (along w (s ∷ rest)) (makes_by (along w (s ∷ rest)) s l)) (lead-first s rest))
-    (goes-nowhere callers x x (along x) (along x) refl refl none (numbered-played callers (left w) s silent n) (λ tail. refl)))
+    (goes-nowhere callers x x (along x) (along x) refl refl none (numbered-played callers (left w) s silent (record { size = n.size; asked = n.asked })) (λ tail. refl)))
 
 -- each event is no call
 no-call-posts : (b at : ℕ) (boxes : List (List Message)) → AreSteps IsNoCall (posts b at boxes)
@@ -111,22 +111,24 @@ goes-pick : (callers n made : ℕ) (w : Walk) (p : Option Step) → w.rest ≡ N
     → Goes callers w (by_pick n made w p).walk (λ rest. by_pick n made (along w rest) p) (moved_along (by_pick n made w p))
 goes-pick callers n made w None e silent k more =
     goes-nowhere callers w (picks_in w) (λ rest. by_pick n made (along w rest) None) (moved_along (by_pick n made w None)) refl refl e
-    (record { callers = k.callers; asked = k.asked }) (λ tail. refl)
+    (record { size = k.size; asked = k.asked }) (λ tail. refl)
 goes-pick callers n made w (Some s) e silent k more =
     let u : Walk = left (picks_in w) in
     let x : Walk = played u s in
     let none : x.rest ≡ None = ap (λ (r : Option (List Step)). (left (record w { rest = r })).rest) e in
-    let numbered : IsNumbered callers x = numbered-played callers u s silent (record { callers = k.callers; asked = k.asked }) in
+    let numbered : IsNumbered callers x = numbered-played callers u s silent (record { size = k.size; asked = k.asked }) in
     let is : by_pick n made w (Some s) ≡ moves n (made + 1) x = ap (λ (r : Option (List Step)). by_lead n made w s (lead_in r s)) e in
     subst (λ (m : Moved). Goes callers w m.walk (λ rest. by_pick n made (along w rest) (Some s)) (moved_along m)) (sym is)
-    (goes-step callers w x (moves n (made + 1) x).walk s (λ rest. by_pick n made (along w rest) (Some s)) (moves n (made + 1)) (moved_along (moves n (made + 1) x)) refl refl silent
+    (goes-step callers w x (moves n (made + 1) x).walk s (λ rest. by_pick n made (along w rest) (Some s)) (moves n (made + 1))
+    (moved_along (moves n (made + 1) x)) refl refl silent
     (λ rest. ap (by_lead n made (along w (s ∷ rest)) s) (lead-first s rest))
     (more x none numbered))
 
 pub goes-moves : (callers n made : ℕ) (w : Walk) → w.rest ≡ None → IsNumbered callers w → MovesGo callers n made w
 goes-moves callers zero made w e k =
     subst (λ (m : Moved). Goes callers w m.walk (λ rest. moves 0 made (along w rest)) (moved_along m)) (sym (moves-over made w))
-    (goes-nowhere callers w w (λ rest. moves 0 made (along w rest)) (moved_along (record { walk = w; events = made })) refl refl e k (λ tail. moves-over made (along w tail)))
+    (goes-nowhere callers w w (λ rest. moves 0 made (along w rest)) (moved_along (record { walk = w; events = made })) refl refl e k
+    (λ tail. moves-over made (along w tail)))
 goes-moves callers (suc n) made w e k =
     let p : IfSome (picked_in w) IsNoCall = steps-picked IsNoCall w.picking (events w.trace.world) (no-call-events w.trace.world) in
     let g = goes-pick callers n made w (picked_in w) e p k (goes-moves callers n (made + 1)) in

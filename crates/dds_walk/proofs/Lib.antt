@@ -8,6 +8,7 @@ pub mod Walked
 pub mod Along
 pub mod AlongSteps
 pub mod AlongLines
+pub mod Once
 pub mod Entries
 pub mod Rank
 pub mod Changed
