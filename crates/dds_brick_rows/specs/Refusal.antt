@@ -17,6 +17,7 @@ use Rattle.dds_letters.specs.declared.refusal.Refusal.{Refusal}
 use Rattle.dds_letters.specs.declared.refusal.Refusal.TheVariants as refusal
 use Rattle.dds_locks.specs.Leases.{leased, lease_covers}
 use Rattle.dds_locks.specs.Pending.{holder, any_under}
+use Rattle.dds_brick_rows.specs.declared.refusal.TheConstants.{PAIRS}
 use Rattle.dds_states.specs.Leaf.{leaf_for}
 use Rattle.dds_states.specs.Turn.{first_some, when}
 use Rattle.dds_states.specs.declared.brick_state.BrickState.{BrickState}
@@ -80,7 +81,7 @@ is_new_under pairs name p = is_put p.op && (covers name (the_key p.op) && not (c
 -- the pairs under a leaf's name and those that its pending puts will add are the limit together
 abbrev pub is_full : BrickState → Leaf → Bool
 is_full s leaf =
-    pairs_under s.pairs leaf.name + count_by (λ p. is_new_under s.pairs leaf.name p) s.locks.pending == 16384
+    pairs_under s.pairs leaf.name + count_by (λ p. is_new_under s.pairs leaf.name p) s.locks.pending == PAIRS
 
 abbrev pub is_full_at : BrickState → Option Leaf → Bool
 is_full_at s None = false

@@ -1,7 +1,7 @@
 -- How bricks resolve a transaction whose library stopped. The one resolver is the first member of its list that hasn't
 -- stopped: it commits where a live member has committed or all live members are prepared, and aborts where one never
 -- prepared or has aborted.
-use Rattle.std.specs.Prelude.{ℕ, Bool, true, false, not, ◌==◌, ◌&&◌, ◌||◌, List, [], ◌∷◌, ◌++◌, Option, Some, None, find, if◌then◌else◌}
+use Rattle.std.specs.Prelude.{ℕ, Bool, true, false, not, ◌==◌, ◌&&◌, ◌||◌, List, [], ◌∷◌, ◌++◌, Option, Some, None, if◌then◌else◌}
 use Rattle.std.specs.List.{list_any, list_all}
 use Rattle.dds_base.specs.NodeSet.{has_node}
 use Rattle.dds_base.specs.BrickList.{has}
@@ -12,11 +12,12 @@ use Rattle.dds_base.specs.declared.pending.Pending.{Pending}
 use Rattle.dds_base.specs.declared.pending.TxnStatus.{TxnStatus}
 use Rattle.dds_base.specs.declared.pending.TxnStatus.TheVariants as txn_status
 use Rattle.dds_letters.specs.declared.letter.Letter.TheVariants as letter
-use Rattle.dds_locks.specs.First.{without_first}
 use Rattle.dds_locks.specs.Pending.{first_of}
 use Rattle.dds_locks.specs.Status.{status}
 use Rattle.dds_states.specs.Turn.{BrickTurn, still, sends, and_then, to_each, without, is_none_left, unknown_others}
 use Rattle.dds_brick_rows.specs.Calls.{dropped, applied, aborted}
+use Rattle.dds_brick_rows.specs.declared.resolution.News.{News}
+use Rattle.dds_brick_rows.specs.declared.resolution.News.TheVariants as news
 use Rattle.dds_states.specs.declared.brick_state.BrickState.{BrickState}
 use Rattle.dds_states.specs.declared.brick_state.Deferred.{Deferred}
 use Rattle.dds_states.specs.declared.brick_state.Question.{Question}
@@ -107,16 +108,30 @@ query_row s from txn list =
     if is_ready s.known txn list from then sends s ((from, letter.Status txn (status s.locks txn)) ∷ [])
     else defers s from Query txn list
 
--- the resolving, where it waits for this member
-abbrev pub waiting_for : NodeNo → Option Resolving → Option Resolving
-waiting_for from None = None
-waiting_for from (Some r) = if has r.waiting from then Some r else None
+-- a resolving waits for what a member tells
+abbrev pub is_awaited : Resolving → NodeNo → News → Bool
+is_awaited r from news.Stopped = has r.waiting from
+is_awaited r from (news.Told txn st) = is_of txn r && has r.waiting from
 
-abbrev pub status_heard : BrickState → NodeNo → Txn → TxnStatus → Option Resolving → BrickTurn
-status_heard s from txn st None = still s
-status_heard s from txn st (Some r) =
-    resolves_on (record s { resolving = without_first (is_of txn) s.resolving }) (unwaited (heard r st) from)
+-- a resolving that has heard it, and waits for that member no more
+abbrev pub with_news : Resolving → NodeNo → News → Resolving
+with_news r from news.Stopped = unwaited r from
+with_news r from (news.Told txn st) = unwaited (heard r st) from
+
+-- one resolving, which isn't in the state's list, goes on by what a member tells
+abbrev pub resolving_goes : BrickState → NodeNo → News → Resolving → BrickTurn
+resolving_goes s from news r =
+    if is_awaited r from news then resolves_on s (with_news r from news) else still (record s { resolving = s.resolving ++ r ∷ [] })
+
+abbrev pub resolvings_go : BrickState → NodeNo → News → List Resolving → BrickTurn
+resolvings_go s from news [] = still s
+resolvings_go s from news (r ∷ rs) = and_then (resolving_goes s from news r) (λ t. resolvings_go t from news rs)
+
+-- each resolving that waits for what a member tells goes on, in the order of starting; those that go on waiting keep
+-- their places
+abbrev pub all_hear : BrickState → NodeNo → News → BrickTurn
+all_hear s from news = resolvings_go (record s { resolving = [] }) from news s.resolving
 
 -- Status: a member that is waited for tells how far it is
 abbrev pub status_row : BrickState → NodeNo → Txn → TxnStatus → BrickTurn
-status_row s from txn st = status_heard s from txn st (waiting_for from (find (is_of txn) s.resolving))
+status_row s from txn st = all_hear s from (news.Told txn st)

@@ -1,16 +1,15 @@
 //! How bricks resolve a transaction whose library stopped.
 
-ghost use Rattle.std.specs.Prelude.{◌≡◌, ◌==◌, ◌&&◌, ◌||◌, [], ◌∷◌, ◌++◌, IfOk, OnOk, Some, None, OnSome, IfSome, IfNone, ◌<◌, length, not, position, find};
-ghost use Rattle.dds_locks.specs.First.{without_first};
+ghost use Rattle.std.specs.Prelude.{◌≡◌, ◌==◌, ◌&&◌, ◌||◌, [], ◌∷◌, ◌++◌, IfOk, OnOk, Some, None, length, not};
 ghost use Rattle.std.specs.List.{list_all, list_any};
 ghost use Rattle.dds_base.specs.NodeSet.{has_node};
 ghost use Rattle.dds_locks.specs.Status.{status};
 ghost use Rattle.dds_letters.specs.declared.letter.Letter.TheVariants as letter;
 ghost use Rattle.dds_states.specs.Turn.{to_each, unknown_others, both, letters_out};
 ghost use Rattle.dds_brick_rows.specs.Calls.{dropped};
-ghost use Rattle.dds_brick_rows.specs.Resolution.{before, is_ready, is_commit, is_no, heard, unwaited, settled, outcome_row, verdict, decides, resolves_on, started, resolve, is_of, is_resolved, defers, help_row, query_row, waiting_for, status_heard, status_row};
+ghost use Rattle.dds_brick_rows.specs.Resolution.{before, is_ready, is_commit, is_no, heard, unwaited, settled, outcome_row, verdict, decides, resolves_on, started, resolve, is_of, is_resolved, defers, help_row, query_row, is_awaited, with_news, resolving_goes, resolvings_go, all_hear, status_row};
 
-use crate::calls::apply;
+use crate::calls::applied;
 use dds_base::brick_list::BrickList;
 use dds_base::items::Items;
 use dds_base::memory::Memory;
@@ -22,6 +21,13 @@ use dds_states::brick_state::{BrickState, Deferred, Question, Resolving};
 use dds_states::nodes::{has, members, to_each, unknown_others, without};
 use dds_states::turn::CoreTurn;
 use std::alloc::Global;
+
+/// What a member tells a resolver: that it has stopped, or how far it is with a transaction.
+#[derive(Clone, Copy, Debug)]
+pub enum News {
+    Stopped,
+    Told { txn: TxnNo, status: TxnStatus },
+}
 
 /// Whether all members before one are known to have stopped.
 fn all_before(known: &NodeSet, list: &[NodeNo], member: NodeNo) -> bool
@@ -65,7 +71,7 @@ fn is_no(status: TxnStatus) -> bool
 }
 
 /// The resolving with a status more.
-fn hear(mut resolving: Resolving, status: TxnStatus) -> Resolving
+fn heard(mut resolving: Resolving, status: TxnStatus) -> Resolving
     ensures { result ≡ heard resolving status }
 {
     resolving.saw_commit = resolving.saw_commit || is_commit(status);
@@ -74,7 +80,7 @@ fn hear(mut resolving: Resolving, status: TxnStatus) -> Resolving
 }
 
 /// The resolving that doesn't wait for a node any more.
-pub fn unwait(alloc: Global, mut resolving: Resolving, node: NodeNo) -> Result<Resolving, Memory>
+fn unwaited(alloc: Global, mut resolving: Resolving, node: NodeNo) -> Result<Resolving, Memory>
     ensures { IfOk result (λ r. r ≡ unwaited resolving node) }
 {
     resolving.waiting = without(alloc, resolving.waiting.as_slice(), node)?;
@@ -82,7 +88,7 @@ pub fn unwait(alloc: Global, mut resolving: Resolving, node: NodeNo) -> Result<R
 }
 
 /// Applies or aborts the transaction where it is pending.
-pub fn outcome(
+pub fn outcome_row(
     alloc: Global,
     state: &mut BrickState,
     txn: TxnNo,
@@ -95,7 +101,7 @@ pub fn outcome(
         return Ok(CoreTurn::new(alloc));
     };
     if commit {
-        return apply(alloc, state, &pending);
+        return applied(alloc, state, pending);
     }
     state.locks.note(pending.txn, false)?;
     Ok(CoreTurn::new(alloc))
@@ -109,12 +115,12 @@ fn verdict(resolving: &Resolving) -> bool
 }
 
 /// Does what an outcome does, and tells the other members.
-fn decide(alloc: Global, state: &mut BrickState, resolving: &Resolving) -> Result<CoreTurn, Memory>
+fn decides(alloc: Global, state: &mut BrickState, resolving: &Resolving) -> Result<CoreTurn, Memory>
     ensures state { OnOk result (state.new ≡ (decides state.old resolving.now).state) }
     ensures out { IfOk result (λ turn. turn ≡ (decides state.old resolving.now).out) }
 {
     let commit = verdict(resolving);
-    let turn = outcome(alloc, state, resolving.txn, commit)?;
+    let turn = outcome_row(alloc, state, resolving.txn, commit)?;
     let others = unknown_others(alloc, &resolving.list, state.number, &state.known)?;
     let told = Letter::Outcome {
         txn: resolving.txn,
@@ -125,7 +131,7 @@ fn decide(alloc: Global, state: &mut BrickState, resolving: &Resolving) -> Resul
 }
 
 /// Goes on with a resolving that isn't in the state's list: decides where no member is waited for, and keeps it else.
-pub fn resolve_on(
+pub fn resolves_on(
     alloc: Global,
     state: &mut BrickState,
     resolving: Resolving,
@@ -134,14 +140,14 @@ pub fn resolve_on(
     ensures out { IfOk result (λ turn. turn ≡ (resolves_on state.old resolving).out) }
 {
     if resolving.waiting.is_empty() {
-        return decide(alloc, state, &resolving);
+        return decides(alloc, state, &resolving);
     }
     state.resolving.push(resolving)?;
     Ok(CoreTurn::new(alloc))
 }
 
 /// A new resolving, which has heard this brick's own status.
-fn start(
+fn started(
     alloc: Global,
     state: &BrickState,
     txn: TxnNo,
@@ -157,7 +163,7 @@ fn start(
         saw_commit: false,
         saw_no: false,
     };
-    Ok(hear(resolving, state.locks.status(txn)))
+    Ok(heard(resolving, state.locks.status(txn)))
 }
 
 fn ask_others(
@@ -186,8 +192,8 @@ pub fn resolve(
     ensures out { IfOk result (λ turn. turn ≡ (resolve state.old txn list.now).out) }
 {
     let asked = ask_others(alloc, state, txn, list)?;
-    let resolving = start(alloc, state, txn, list)?;
-    let next = resolve_on(alloc, state, resolving)?;
+    let resolving = started(alloc, state, txn, list)?;
+    let next = resolves_on(alloc, state, resolving)?;
     asked.with(next)
 }
 
@@ -198,7 +204,7 @@ pub fn is_resolved(state: &BrickState, txn: TxnNo) -> bool
     state.resolving.as_slice().iter().any(|r| r.txn == txn)
 }
 
-fn defer(
+fn defers(
     state: &mut BrickState,
     from: NodeNo,
     question: Question,
@@ -216,7 +222,7 @@ fn defer(
 }
 
 /// Resolves the transaction, unless that is being done here; or defers it while this brick can't be the resolver.
-pub fn help(
+pub fn help_row(
     alloc: Global,
     state: &mut BrickState,
     from: NodeNo,
@@ -227,7 +233,7 @@ pub fn help(
     ensures out { IfOk result (λ turn. turn ≡ (help_row state.old from txn list.now).out) }
 {
     if !is_ready(alloc, &state.known, txn, list, state.number)? {
-        defer(state, from, Question::Help, txn, list)?;
+        defers(state, from, Question::Help, txn, list)?;
         return Ok(CoreTurn::new(alloc));
     }
     if is_resolved(state, txn) {
@@ -237,7 +243,7 @@ pub fn help(
 }
 
 /// Tells the status; or defers it while the sender can't be the resolver.
-pub fn query(
+pub fn query_row(
     alloc: Global,
     state: &mut BrickState,
     from: NodeNo,
@@ -248,37 +254,94 @@ pub fn query(
     ensures out { IfOk result (λ turn. turn ≡ (query_row state.old from txn list.now).out) }
 {
     if !is_ready(alloc, &state.known, txn, list, from)? {
-        defer(state, from, Question::Query, txn, list)?;
+        defers(state, from, Question::Query, txn, list)?;
         return Ok(CoreTurn::new(alloc));
     }
     let status = state.locks.status(txn);
     CoreTurn::letter(alloc, from, Letter::Status { txn, status })
 }
 
-fn place_of(resolving: &[Resolving], txn: TxnNo) -> Option<usize>
-    ensures value { result ≡ position (is_of txn) resolving.now }
-    ensures within { IfSome result (λ place. place < length resolving.now) }
+/// Whether a resolving waits for what a member tells.
+fn is_awaited(resolving: &Resolving, from: NodeNo, news: &News) -> bool
+    ensures { result ≡ is_awaited resolving.now from news.now }
 {
-    resolving.iter().position(|r| r.txn == txn)
+    match news {
+        News::Stopped => has(resolving.waiting.as_slice(), from),
+        News::Told { txn, status: _ } => {
+            resolving.txn == *txn && has(resolving.waiting.as_slice(), from)
+        }
+    }
 }
 
-/// Takes the resolving of a transaction out of the list, where it waits for this member.
-fn take_resolving(list: &mut Items<Resolving>, from: NodeNo, txn: TxnNo) -> Option<Resolving>
-    ensures value { result ≡ waiting_for from (find (is_of txn) list.old) }
-    ensures some { OnSome result (list.new ≡ without_first (is_of txn) list.old) }
-    ensures none { IfNone result (list.new ≡ list.old) }
+/// The resolving that has heard it, and waits for that member no more.
+fn with_news(
+    alloc: Global,
+    resolving: Resolving,
+    from: NodeNo,
+    news: &News,
+) -> Result<Resolving, Memory>
+    ensures { IfOk result (λ r. r ≡ with_news resolving from news.now) }
 {
-    let Some(place) = place_of(list.as_slice(), txn) else {
-        return None;
-    };
-    if !has(list.at(place).waiting.as_slice(), from) {
-        return None;
+    match news {
+        News::Stopped => unwaited(alloc, resolving, from),
+        News::Told { txn: _, status } => unwaited(alloc, heard(resolving, *status), from),
     }
-    Some(list.remove(place))
+}
+
+/// One resolving, which isn't in the state's list, goes on by what a member tells.
+fn resolving_goes(
+    alloc: Global,
+    state: &mut BrickState,
+    from: NodeNo,
+    news: &News,
+    resolving: Resolving,
+) -> Result<CoreTurn, Memory>
+    ensures state { OnOk result (state.new ≡ (resolving_goes state.old from news.now resolving).state) }
+    ensures out { IfOk result (λ turn. turn ≡ (resolving_goes state.old from news.now resolving).out) }
+{
+    if !is_awaited(&resolving, from, news) {
+        state.resolving.push(resolving)?;
+        return Ok(CoreTurn::new(alloc));
+    }
+    let resolving = with_news(alloc, resolving, from, news)?;
+    resolves_on(alloc, state, resolving)
+}
+
+fn resolvings_go(
+    alloc: Global,
+    state: &mut BrickState,
+    from: NodeNo,
+    news: &News,
+    resolvings: Items<Resolving>,
+) -> Result<CoreTurn, Memory>
+    ensures state { OnOk result (state.new ≡ (resolvings_go state.old from news.now resolvings).state) }
+    ensures out { IfOk result (λ turn. turn ≡ (resolvings_go state.old from news.now resolvings).out) }
+{
+    let mut turn = CoreTurn::new(alloc);
+    for resolving in resolvings.into_vec() {
+        let next = resolving_goes(alloc, state, from, news, resolving)?;
+        turn = turn.with(next)?;
+    }
+    Ok(turn)
+}
+
+/// Each resolving that waits for what a member tells goes on, in the order of starting; those that go on waiting keep
+/// their places.
+pub fn all_hear(
+    alloc: Global,
+    state: &mut BrickState,
+    from: NodeNo,
+    news: &News,
+) -> Result<CoreTurn, Memory>
+    ensures state { OnOk result (state.new ≡ (all_hear state.old from news.now).state) }
+    ensures out { IfOk result (λ turn. turn ≡ (all_hear state.old from news.now).out) }
+{
+    let resolvings = std::mem::replace(&mut state.resolving, Items::new(alloc));
+    resolvings_go(alloc, state, from, news, resolvings)
 }
 
 /// A member that is waited for tells how far it is.
-pub fn status(
+pub fn status_row(
     alloc: Global,
     state: &mut BrickState,
     from: NodeNo,
@@ -288,9 +351,5 @@ pub fn status(
     ensures state { OnOk result (state.new ≡ (status_row state.old from txn status).state) }
     ensures out { IfOk result (λ turn. turn ≡ (status_row state.old from txn status).out) }
 {
-    let Some(resolving) = take_resolving(&mut state.resolving, from, txn) else {
-        return Ok(CoreTurn::new(alloc));
-    };
-    let resolving = unwait(alloc, hear(resolving, status), from)?;
-    resolve_on(alloc, state, resolving)
+    all_hear(alloc, state, from, &News::Told { txn, status })
 }

@@ -1,5 +1,6 @@
 -- What a library does for one call: how an attempt begins, how a newer map is looked for, and what each letter does.
-use Rattle.std.specs.Prelude.{ℕ, Bool, true, false, not, ◌==◌, ◌+◌, ◌%◌, ◌&&◌, List, [], ◌∷◌, ◌++◌, Option, Some, None, length, filter, map, min, slice_index, if◌then◌else◌}
+use Rattle.std.specs.Prelude.{ℕ, Bool, true, false, not, ◌==◌, ◌+◌, ◌%◌, ◌&&◌, List, [], ◌∷◌, ◌++◌, Option, Some, None, length, filter, map, min, slice_index}
+use Rattle.std.specs.Prelude.{if◌then◌else◌}
 use Rattle.std.specs.List.{list_all}
 use Rattle.dds_base.specs.Name.{Name, same_name}
 use Rattle.dds_base.specs.BrickList.{has}
@@ -30,6 +31,7 @@ use Rattle.dds_letters.specs.declared.refusal.Refusal.TheVariants as refusal
 use Rattle.dds_trie.specs.Trie.{LeafMap, put}
 use Rattle.dds_states.specs.Turn.{to_each, without, is_none_left, unknown, numbers_from}
 use Rattle.dds_states.specs.Leaf.{leaf_for}
+use Rattle.dds_states.specs.declared.library_state.TheConstants.{RETRIES}
 use Rattle.dds_states.specs.declared.library_state.Desk.{Desk}
 use Rattle.dds_states.specs.declared.library_state.OpenCall.{OpenCall}
 use Rattle.dds_states.specs.declared.library_state.Phase.{Phase}
@@ -78,11 +80,12 @@ retried r = record r { retries = r.retries + 1 }
 abbrev pub asks : Desk → Request → Met → List NodeNo → CallTurn
 asks d r m [] = replies (counted d) (reply.Again m)
 asks d r m (n ∷ ns) =
-    stays (counted d) (to_each (n ∷ ns) (letter.MapAsk (next_txn d) r.caller r.call (the_key r.op))) (record { request = retried r; txn = next_txn d; phase = Asking (n ∷ ns) None m })
+    stays (counted d) (to_each (n ∷ ns) (letter.MapAsk (next_txn d) r.caller r.call (the_key r.op)))
+    (record { request = retried r; txn = next_txn d; phase = Asking (n ∷ ns) None m })
 
 -- asks every brick for its leaf of the key; after three looks the call is answered Again
 abbrev pub ask : Desk → Request → Met → CallTurn
-ask d r m = if r.retries == 3 then replies d (reply.Again m) else asks d r m (live_bricks d)
+ask d r m = if r.retries == RETRIES then replies d (reply.Again m) else asks d r m (live_bricks d)
 
 -- the letter and the phase by which an attempt begins: a get asks one live member, an update asks all to prepare
 abbrev pub got_from : List NodeNo → Request → NodeNo
@@ -90,11 +93,13 @@ got_from members r = slice_index members (r.caller % length members)
 
 abbrev pub update_begins : Desk → Request → Leaf → List NodeNo → CallTurn
 update_begins d r leaf members =
-    stays (counted d) (to_each members (letter.Prepare (next_txn d) r.caller r.call (below d) leaf.name leaf.stamp members r.op)) (record { request = r; txn = next_txn d; phase = Preparing leaf members members })
+    stays (counted d) (to_each members (letter.Prepare (next_txn d) r.caller r.call (below d) leaf.name leaf.stamp members r.op))
+    (record { request = r; txn = next_txn d; phase = Preparing leaf members members })
 
 abbrev pub get_begins : Desk → Request → Leaf → NodeNo → ℕ → CallTurn
 get_begins d r leaf brick key =
-    stays (counted d) ((brick, letter.Get (next_txn d) r.caller r.call key leaf.name leaf.stamp) ∷ []) (record { request = r; txn = next_txn d; phase = Getting leaf brick })
+    stays (counted d) ((brick, letter.Get (next_txn d) r.caller r.call key leaf.name leaf.stamp) ∷ [])
+    (record { request = r; txn = next_txn d; phase = Getting leaf brick })
 
 abbrev pub attempt_begins : Desk → Request → Leaf → List NodeNo → Op → CallTurn
 attempt_begins d r leaf members (op.Get key) = get_begins d r leaf (got_from members r) key
@@ -137,7 +142,7 @@ repairs d r from theirs (Some mine) =
 
 abbrev pub differs : Desk → Request → NodeNo → Leaf → CallTurn
 differs d r from theirs =
-    if r.retries == 3 then replies d (reply.Again (met.Stale from))
+    if r.retries == RETRIES then replies d (reply.Again (met.Stale from))
     else repairs d (retried r) from theirs (leaf_for d.map (the_key r.op))
 
 abbrev pub stale : Desk → Request → NodeNo → Option Leaf → CallTurn

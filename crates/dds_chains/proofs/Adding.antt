@@ -18,7 +18,7 @@ use Rattle.dds_chains.specs.Index.{same, times, chain_uses, buckets_use, table_u
 use Rattle.dds_base.specs.Name.{Name, covers}
 use Rattle.dds_chains.specs.Answers.{WroteValue, Changed, Made}
 use Rattle.dds_chains.specs.declared.table.Slot.{Slot}
-use Rattle.dds_chains.specs.declared.table.Table.{Table}
+use Rattle.dds_chains.specs.declared.table.Chains.{Chains}
 use Rattle.dds_chains.proofs.Uses.{same-self, buckets-set, bucket-within}
 use Rattle.dds_pages.proofs.ReadBack.{width-of, held-width}
 use Rattle.dds_chains.proofs.Chains.{Kept, placed-kept, chain-kept, found-kept, stored-value, first-page-small}
@@ -98,7 +98,7 @@ pub get-added : (m : Map) (k : ℕ) (v : List ℕ) (q : ℕ) (was : Option (List
 get-added m k v q was e = get-insert nat_cmp_total m k v q ∙ ap (λ (b : Bool). cond b (Some v) (get m q)) (alike q k) ∙ ap (λ (o : Option (List ℕ)). cond (k == q) (Some v) o) e
 
 -- a pair of a new key was written, and is in the table
-pub pair-added : (a : Pages) (free0 free1 free2 : List ℕ) (fresh0 fresh1 fresh2 : ℕ) (t now : Table) (slot : Slot) (held : Held) (value bytes : List ℕ) (told1 told3 : Option Pages) →
+pub pair-added : (a : Pages) (free0 free1 free2 : List ℕ) (fresh0 fresh1 fresh2 : ℕ) (t now : Chains) (slot : Slot) (held : Held) (value bytes : List ℕ) (told1 told3 : Option Pages) →
     (w : WroteValue a free0 fresh0 told1 held slot.overflow value) → IsHeld held → ((n : ℕ) → vacant n free1 fresh1 + times n slot.overflow ≡ vacant n free0 fresh0) → ((n : ℕ) → vacant n free2 fresh2 + same n slot.page ≡ vacant n free1 fresh1) →
     slot.page < 2 ^ 64 - 1 → slot.key < 2 ^ 64 → slot.len ≡ length value → ((n : ℕ) → vacant n free0 fresh0 + table_uses n t ≤ 1) → IsIndex t → IsTable a t → t.len < 16384 → IsIndex now →
     now.root ≡ t.root → now.len ≡ (if nat_lt t.len 16384 then t.len + 1 else t.len) → now.buckets.items ≡ set t.buckets.items (bucket_no slot.key) (slot ∷ get_or t.buckets.items (bucket_no slot.key) []) →
@@ -143,7 +143,7 @@ pair-added a free0 free1 free2 fresh0 fresh1 fresh2 t now slot held value bytes 
       binds = same-content _ _ (λ q. content-found b now q xnow table ∙ found_q q ∙ sym (get-added (content a t.root) slot.key value q (found a (get_or t.buckets.items (bucket_no q) []) q) (content-found a t q x tab)));
     }
 
-pub index-added : (t now : Table) (slot : Slot) → IsIndex t → IsTrue (covers t.name slot.key) → Misses slot.key (get_or t.buckets.items (bucket_no slot.key) []) → now.name ≡ t.name → now.len ≡ (if nat_lt t.len 16384 then t.len + 1 else t.len) →
+pub index-added : (t now : Chains) (slot : Slot) → IsIndex t → IsTrue (covers t.name slot.key) → Misses slot.key (get_or t.buckets.items (bucket_no slot.key) []) → now.name ≡ t.name → now.len ≡ (if nat_lt t.len 16384 then t.len + 1 else t.len) →
     now.buckets.items ≡ set t.buckets.items (bucket_no slot.key) (slot ∷ get_or t.buckets.items (bucket_no slot.key) []) → IsIndex now
 index-added t now slot x covered new name len buckets =
     let within : bucket_no slot.key < length t.buckets.items = let k = bucket-below slot.key in omega (arith, k, x.long) in
@@ -158,7 +158,7 @@ pub moved : (free now : List ℕ) (fresh fresh_now : ℕ) (u k : ℕ → ℕ) �
 moved free now fresh fresh_now u k e f h n = rw (e, f) (h n)
 
 -- how often a page stands as vacant or in the table is as before
-pub number-added : (free0 free1 free2 : List ℕ) (fresh0 fresh1 fresh2 : ℕ) (t now : Table) (slot : Slot) → ((n : ℕ) → vacant n free1 fresh1 + times n slot.overflow ≡ vacant n free0 fresh0) → ((n : ℕ) → vacant n free2 fresh2 + same n slot.page ≡ vacant n free1 fresh1) → length t.buckets.items ≡ 256 →
+pub number-added : (free0 free1 free2 : List ℕ) (fresh0 fresh1 fresh2 : ℕ) (t now : Chains) (slot : Slot) → ((n : ℕ) → vacant n free1 fresh1 + times n slot.overflow ≡ vacant n free0 fresh0) → ((n : ℕ) → vacant n free2 fresh2 + same n slot.page ≡ vacant n free1 fresh1) → length t.buckets.items ≡ 256 →
     now.root ≡ t.root → now.buckets.items ≡ set t.buckets.items (bucket_no slot.key) (slot ∷ get_or t.buckets.items (bucket_no slot.key) []) → (n : ℕ) → vacant n free2 fresh2 + table_uses n now ≡ vacant n free0 fresh0 + table_uses n t
 number-added free0 free1 free2 fresh0 fresh1 fresh2 t now slot n1 n2 long root buckets n =
     let within : bucket_no slot.key < length t.buckets.items = let k = bucket-below slot.key in omega (arith, k, long) in
@@ -188,18 +188,18 @@ uses-none : (n k : ℕ) → buckets_use n (replicate k []) ≡ 0
 uses-none n zero = refl
 uses-none n (suc k) = let h = uses-none n k in omega arith
 
-pub made-index : (t : Table) → t.buckets.items ≡ replicate 256 [] → t.len ≡ 0 → IsIndex t
+pub made-index : (t : Chains) → t.buckets.items ≡ replicate 256 [] → t.len ≡ 0 → IsIndex t
 made-index t e z = record {
   long = ap length e ∙ length-replicate {A = List Slot} 256 [];
   few = omega arith;
   keys = λ i. subst (λ (bs : List (List Slot)). AreKeysOf t.name i (get_or bs i [])) (sym e) (keys-none t.name i i 256);
 }
 
-pub made-number : (free0 free1 : List ℕ) (fresh0 fresh1 : ℕ) (t : Table) → t.buckets.items ≡ replicate 256 [] → ((n : ℕ) → vacant n free1 fresh1 + same n t.root ≡ vacant n free0 fresh0) → (n : ℕ) → vacant n free1 fresh1 + table_uses n t ≡ vacant n free0 fresh0
+pub made-number : (free0 free1 : List ℕ) (fresh0 fresh1 : ℕ) (t : Chains) → t.buckets.items ≡ replicate 256 [] → ((n : ℕ) → vacant n free1 fresh1 + same n t.root ≡ vacant n free0 fresh0) → (n : ℕ) → vacant n free1 fresh1 + table_uses n t ≡ vacant n free0 fresh0
 made-number free0 free1 fresh0 fresh1 t e h n = let u : buckets_use n t.buckets.items ≡ 0 = ap (buckets_use n) e ∙ uses-none n 256 in omega (arith, h n, u)
 
 -- an empty table was made
-pub table-made : (a : Pages) (free0 free1 : List ℕ) (fresh0 fresh1 : ℕ) (t : Table) (told : Option Pages) → t.buckets.items ≡ replicate 256 [] → t.len ≡ 0 → ((n : ℕ) → vacant n free1 fresh1 + same n t.root ≡ vacant n free0 fresh0) →
+pub table-made : (a : Pages) (free0 free1 : List ℕ) (fresh0 fresh1 : ℕ) (t : Chains) (told : Option Pages) → t.buckets.items ≡ replicate 256 [] → t.len ≡ 0 → ((n : ℕ) → vacant n free1 fresh1 + same n t.root ≡ vacant n free0 fresh0) →
     told ≡ Some (insert a t.root (root_bytes 2 (record { pairs = t.len; firsts = map first_page t.buckets.items }))) → Made a free0 fresh0 told t
 table-made a free0 free1 fresh0 fresh1 t told e z number is =
     let new_root : List ℕ = root_bytes 2 (record { pairs = t.len; firsts = map first_page t.buckets.items }) in

@@ -15,7 +15,7 @@ use Rattle.dds_pages.specs.Said.{root_in}
 use Rattle.dds_base.specs.Place.{bucket as bucket_no}
 use Rattle.dds_chains.specs.Index.{first_page, IsChain, found, AreKeysOf, total, IsIndex, IsTable, Misses, slot_value}
 use Rattle.dds_chains.specs.declared.table.Slot.{Slot}
-use Rattle.dds_chains.specs.declared.table.Table.{Table}
+use Rattle.dds_chains.specs.declared.table.Chains.{Chains}
 use Rattle.dds_pages.proofs.ReadBack.{AreSmall, root-back}
 use Rattle.dds_chains.proofs.Chains.{slot_pairs, chain-pairs, first-page-small}
 
@@ -68,7 +68,7 @@ firsts-small a [] h = tt
 firsts-small a (ss ∷ rest) h = (first-page-small a ss (h 0), firsts-small a rest (λ b. h (suc b)))
 
 -- what a table's pages bind a key to
-pub content-found : (a : Pages) (table : Table) (q : ℕ) → IsIndex table → IsTable a table → get (content a table.root) q ≡ found a (get_or table.buckets.items (bucket_no q) []) q
+pub content-found : (a : Pages) (table : Chains) (q : ℕ) → IsIndex table → IsTable a table → get (content a table.root) q ≡ found a (get_or table.buckets.items (bucket_no q) []) q
 unfolding content
 content-found a table q x t =
     let firsts : List ℕ = map first_page table.buckets.items in
@@ -103,7 +103,7 @@ len-all a name o (ss ∷ rest) h =
     let c = len-chain a name (o + 0) ss (flat_map (slot_pairs a) rest) (h 0) (λ q e. rest-misses a name (o + 1) rest q later (omega arith)) in
     omega (arith, r, c)
 
-pub content-len : (a : Pages) (table : Table) → IsIndex table → IsTable a table → len (content a table.root) ≡ table.len
+pub content-len : (a : Pages) (table : Chains) → IsIndex table → IsTable a table → len (content a table.root) ≡ table.len
 unfolding content
 content-len a table x t =
     let firsts : List ℕ = map first_page table.buckets.items in

@@ -13,7 +13,7 @@ use Rattle.dds_chains.specs.Part.{IsNext, in_chain, has_key, IsPart, earlier}
 use Rattle.dds_base.specs.Place.{is_after}
 use Rattle.dds_base.specs.Place.{is_before}
 use Rattle.dds_chains.specs.declared.table.Slot.{Slot}
-use Rattle.dds_chains.specs.declared.table.Table.{Table}
+use Rattle.dds_chains.specs.declared.table.Chains.{Chains}
 use Rattle.dds_base.specs.declared.pair.Pair.{Pair}
 use Rattle.dds_chains.proofs.Adding.{is-at}
 use Rattle.dds_chains.proofs.Contents.{content-found}
@@ -118,7 +118,7 @@ above-test : (n m : ℕ) → nat_lt n m ≡ false → (n == m) ≡ false → m <
 above-test n m h k = grind (arith, nat_tests)
 
 -- the first key of the first bucket that has one
-pub found-next : (t : Table) (slots : List Slot) (b : ℕ) (after found : Option ℕ) → IsIndex t → b < length t.buckets.items → slots ≡ get_or t.buckets.items b slots → ((q : ℕ) → bucket_no q < b → has_key t q ≡ true → is_after after q ≡ false) → IsNext (in_chain slots) after found → is_some found ≡ true → IsNext (has_key t) after found
+pub found-next : (t : Chains) (slots : List Slot) (b : ℕ) (after found : Option ℕ) → IsIndex t → b < length t.buckets.items → slots ≡ get_or t.buckets.items b slots → ((q : ℕ) → bucket_no q < b → has_key t q ≡ true → is_after after q ≡ false) → IsNext (in_chain slots) after found → is_some found ≡ true → IsNext (has_key t) after found
 found-next t slots b after None x below e inv h some = cc
 found-next t slots b after (Some k) x below e inv h some =
     let s : slots ≡ get_or t.buckets.items b [] = e ∙ at-any t.buckets.items b slots [] below in
@@ -142,10 +142,10 @@ found-in a (s ∷ ss) q = elim (s.key == q) as (λ u. is_some (cond u (Some (slo
   | false ↦ found-in a ss q ∙ sym (some-map (place_of ss q))
 ]
 
-has-content : (a : Pages) (t : Table) → IsIndex t → IsTable a t → (q : ℕ) → contains_key (content a t.root) q ≡ has_key t q
+has-content : (a : Pages) (t : Chains) → IsIndex t → IsTable a t → (q : ℕ) → contains_key (content a t.root) q ≡ has_key t q
 has-content a t x tab q = ap is_some (content-found a t q x tab) ∙ found-in a (get_or t.buckets.items (bucket_no q) []) q
 
-pub next-content : (a : Pages) (t : Table) (after o : Option ℕ) → IsIndex t → IsTable a t → IsNext (has_key t) after o → IsNext (λ q. contains_key (content a t.root) q) after o
+pub next-content : (a : Pages) (t : Chains) (after o : Option ℕ) → IsIndex t → IsTable a t → IsNext (has_key t) after o → IsNext (λ q. contains_key (content a t.root) q) after o
 next-content a t after o x tab h = next-same (has_key t) (λ q. contains_key (content a t.root) q) after o (has-content a t x tab) h
 
 none-left : (m : Map) (after : Option ℕ) (n : ℕ) → IsNext (λ q. contains_key m q) after None → IsPart m after n [] true

@@ -4,9 +4,9 @@ use Rattle.std.specs.Option.{option_to_list}
 use Rattle.std.proofs.lemmas.List.{take_more}
 use Rattle.dds_chains.specs.Index.{slot_uses, chain_uses, buckets_use, table_uses, tables_use}
 use Rattle.dds_chains.specs.declared.table.Slot.{Slot}
-use Rattle.dds_chains.specs.declared.table.Table.{Table}
+use Rattle.dds_chains.specs.declared.table.Chains.{Chains}
 
-pub uses-push : (n : ℕ) (tables : List Table) (t : Table) → tables_use n (tables ++ t ∷ []) ≡ tables_use n tables + table_uses n t
+pub uses-push : (n : ℕ) (tables : List Chains) (t : Chains) → tables_use n (tables ++ t ∷ []) ≡ tables_use n tables + table_uses n t
 uses-push n [] t = omega arith
 uses-push n (x ∷ xs) t = let r = uses-push n xs t in omega arith
 
@@ -26,5 +26,5 @@ pub buckets-more : (n : ℕ) (items buckets : List (List Slot)) (i : ℕ) (slots
 buckets-more n items buckets i slots e below is = subst (λ (bs : List (List Slot)). buckets_use n (take (i + 1) bs) ≡ buckets_use n (take i bs) + chain_uses n slots) e (ap (buckets_use n) (take_more items i slots below) ∙ uses-buckets n (take i items) slots (get_or items i slots) is)
 
 -- the table that was dropped last
-pub popped : (n : ℕ) (old new : List Table) (o : Option Table) (t : Table) → old ≡ new ++ option_to_list o → o ≡ Some t → tables_use n old ≡ tables_use n new + table_uses n t
-popped n old new o t e is = ap (tables_use n) (e ∙ ap (λ (p : Option Table). new ++ option_to_list p) is) ∙ uses-push n new t
+pub popped : (n : ℕ) (old new : List Chains) (o : Option Chains) (t : Chains) → old ≡ new ++ option_to_list o → o ≡ Some t → tables_use n old ≡ tables_use n new + table_uses n t
+popped n old new o t e is = ap (tables_use n) (e ∙ ap (λ (p : Option Chains). new ++ option_to_list p) is) ∙ uses-push n new t

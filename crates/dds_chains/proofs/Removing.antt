@@ -16,7 +16,7 @@ use Rattle.dds_base.specs.Place.{bucket as bucket_no}
 use Rattle.dds_chains.specs.Index.{same, times, slot_uses, chain_uses, buckets_use, table_uses, vacant, first_page, found, total, slot_value, place_of, IsStored, IsChain, IsIndex, IsTable, AreKeysOf, Misses}
 use Rattle.dds_chains.specs.Answers.{Bridged, Changed}
 use Rattle.dds_chains.specs.declared.table.Slot.{Slot}
-use Rattle.dds_chains.specs.declared.table.Table.{Table}
+use Rattle.dds_chains.specs.declared.table.Chains.{Chains}
 use Rattle.dds_chains.proofs.Uses.{same-self, buckets-set, bucket-within, times-append}
 use Rattle.dds_chains.proofs.Chains.{Kept, placed-kept, stored-kept, chain-kept, found-kept, value-kept, stored-value, first-page-small}
 use Rattle.dds_chains.proofs.Slots.{later, before, first-not, none-before}
@@ -176,7 +176,7 @@ two-buckets n (x ∷ xs) zero (suc j) d = let k = bucket-within n xs j in omega 
 two-buckets n (x ∷ xs) (suc i) zero d = let k = bucket-within n xs i in omega arith
 two-buckets n (x ∷ xs) (suc i) (suc j) d = let k = two-buckets n xs i j (λ e. d (ap suc e)) in omega arith
 
-pub index-out : (t now : Table) (key place : ℕ) → IsIndex t → now.name ≡ t.name → now.len ≡ t.len - 1 → now.buckets.items ≡ set t.buckets.items (bucket_no key) (remove (get_or t.buckets.items (bucket_no key) []) place) → IsIndex now
+pub index-out : (t now : Chains) (key place : ℕ) → IsIndex t → now.name ≡ t.name → now.len ≡ t.len - 1 → now.buckets.items ≡ set t.buckets.items (bucket_no key) (remove (get_or t.buckets.items (bucket_no key) []) place) → IsIndex now
 index-out t now key place x name len buckets =
     let within : bucket_no key < length t.buckets.items = let k = bucket-below key in omega (arith, k, x.long) in
     let l : length (set t.buckets.items (bucket_no key) (remove (get_or t.buckets.items (bucket_no key) []) place)) ≡ length t.buckets.items = length-set {A = List Slot} _ _ _ in
@@ -186,7 +186,7 @@ index-out t now key place x name len buckets =
       keys = λ i. subst (λ (n : Name). AreKeysOf n i (get_or now.buckets.items i [])) (sym name) (each-set (AreKeysOf t.name) t.buckets.items now.buckets.items (bucket_no key) (remove (get_or t.buckets.items (bucket_no key) []) place) buckets within (keys-out t.name (bucket_no key) (get_or t.buckets.items (bucket_no key) []) place (x.keys (bucket_no key))) (λ j other. x.keys j) i);
     }
 
-pub number-out : (free0 free1 free2 : List ℕ) (fresh0 fresh1 fresh2 : ℕ) (t now : Table) (key place : ℕ) (slot : Slot) → length t.buckets.items ≡ 256 → place < length (get_or t.buckets.items (bucket_no key) []) → slot ≡ get_or (get_or t.buckets.items (bucket_no key) []) place slot → free1 ≡ free0 → fresh1 ≡ fresh0 →
+pub number-out : (free0 free1 free2 : List ℕ) (fresh0 fresh1 fresh2 : ℕ) (t now : Chains) (key place : ℕ) (slot : Slot) → length t.buckets.items ≡ 256 → place < length (get_or t.buckets.items (bucket_no key) []) → slot ≡ get_or (get_or t.buckets.items (bucket_no key) []) place slot → free1 ≡ free0 → fresh1 ≡ fresh0 →
     ((n : ℕ) → vacant n free2 fresh2 ≡ vacant n free1 fresh1 + slot_uses n slot) → now.root ≡ t.root → now.buckets.items ≡ set t.buckets.items (bucket_no key) (remove (get_or t.buckets.items (bucket_no key) []) place) → (n : ℕ) → vacant n free2 fresh2 + table_uses n now ≡ vacant n free0 fresh0 + table_uses n t
 number-out free0 free1 free2 fresh0 fresh1 fresh2 t now key place slot long below is e f number root buckets n =
     let within : bucket_no key < length t.buckets.items = let k = bucket-below key in omega (arith, k, long) in
@@ -199,7 +199,7 @@ pub get-without : (m : Map) (k : ℕ) (q : ℕ) (was : Option (List ℕ)) → ge
 get-without m k q was e = get-remove nat_cmp_total m k q ∙ ap (λ (b : Bool). cond b None (get m q)) (alike q k) ∙ ap (λ (o : Option (List ℕ)). cond (k == q) None o) e
 
 -- the sums of a table that has a pair less
-sums-out : (t now : Table) (key place : ℕ) → IsIndex t → place < length (get_or t.buckets.items (bucket_no key) []) → now.buckets.items ≡ set t.buckets.items (bucket_no key) (remove (get_or t.buckets.items (bucket_no key) []) place) → total now.buckets.items + 1 ≡ total t.buckets.items
+sums-out : (t now : Chains) (key place : ℕ) → IsIndex t → place < length (get_or t.buckets.items (bucket_no key) []) → now.buckets.items ≡ set t.buckets.items (bucket_no key) (remove (get_or t.buckets.items (bucket_no key) []) place) → total now.buckets.items + 1 ≡ total t.buckets.items
 sums-out t now key place x below buckets =
     let within : bucket_no key < length t.buckets.items = let k = bucket-below key in omega (arith, k, x.long) in
     let g = ap total buckets in
@@ -207,11 +207,11 @@ sums-out t now key place x below buckets =
     let l = length-out (get_or t.buckets.items (bucket_no key) []) place below in
     omega (arith, g, m, l)
 
-pub less-out : (a : Pages) (t now : Table) (key place : ℕ) → IsIndex t → IsTable a t → place < length (get_or t.buckets.items (bucket_no key) []) → now.len ≡ t.len - 1 → now.buckets.items ≡ set t.buckets.items (bucket_no key) (remove (get_or t.buckets.items (bucket_no key) []) place) → now.len < t.len
+pub less-out : (a : Pages) (t now : Chains) (key place : ℕ) → IsIndex t → IsTable a t → place < length (get_or t.buckets.items (bucket_no key) []) → now.len ≡ t.len - 1 → now.buckets.items ≡ set t.buckets.items (bucket_no key) (remove (get_or t.buckets.items (bucket_no key) []) place) → now.len < t.len
 less-out a t now key place x tab below len buckets = let s = sums-out t now key place x below buckets in omega (arith, s, tab.len)
 
 -- a pair was taken out, and the table's pages say so
-pub pair-removed : (a : Pages) (free0 : List ℕ) (fresh0 : ℕ) (t now : Table) (key place : ℕ) (slot : Slot) (told1 told2 : Option Pages) → (w : Bridged a (get_or t.buckets.items (bucket_no key) []) place told1) → IsIndex t → IsIndex now → IsTable a t → place_of (get_or t.buckets.items (bucket_no key) []) key ≡ Some place →
+pub pair-removed : (a : Pages) (free0 : List ℕ) (fresh0 : ℕ) (t now : Chains) (key place : ℕ) (slot : Slot) (told1 told2 : Option Pages) → (w : Bridged a (get_or t.buckets.items (bucket_no key) []) place told1) → IsIndex t → IsIndex now → IsTable a t → place_of (get_or t.buckets.items (bucket_no key) []) key ≡ Some place →
     place < length (get_or t.buckets.items (bucket_no key) []) → slot ≡ get_or (get_or t.buckets.items (bucket_no key) []) place slot → ((n : ℕ) → vacant n free0 fresh0 + table_uses n t ≤ 1) → now.root ≡ t.root → now.len ≡ t.len - 1 → now.buckets.items ≡ set t.buckets.items (bucket_no key) (remove (get_or t.buckets.items (bucket_no key) []) place) →
     told2 ≡ Some (insert w.b now.root (root_bytes 2 (record { pairs = now.len; firsts = map first_page now.buckets.items }))) → Changed a free0 fresh0 t told2 now (without (content a t.root) key)
 pair-removed a free0 fresh0 t now key place slot told1 told2 w x xnow tab there below slot_is single root len buckets is =
@@ -264,7 +264,7 @@ misses-place name b key (s ∷ ss) (suc i) h p = (elim (s.key == key) as (λ t. 
   | false ↦ λ t p. (t, misses-place name b key ss i h.3 (before (place_of ss key) i p))
 ]) refl p
 
-pub gone-out : (t now : Table) (key place : ℕ) → IsIndex t → place_of (get_or t.buckets.items (bucket_no key) []) key ≡ Some place → now.buckets.items ≡ set t.buckets.items (bucket_no key) (remove (get_or t.buckets.items (bucket_no key) []) place) → Misses key (get_or now.buckets.items (bucket_no key) [])
+pub gone-out : (t now : Chains) (key place : ℕ) → IsIndex t → place_of (get_or t.buckets.items (bucket_no key) []) key ≡ Some place → now.buckets.items ≡ set t.buckets.items (bucket_no key) (remove (get_or t.buckets.items (bucket_no key) []) place) → Misses key (get_or now.buckets.items (bucket_no key) [])
 gone-out t now key place x there buckets =
     let within : bucket_no key < length t.buckets.items = let k = bucket-below key in omega (arith, k, x.long) in
     subst (Misses key) (sym (ap (λ (bs : List (List Slot)). get_or bs (bucket_no key) []) buckets ∙ get_or-set_same t.buckets.items (bucket_no key) (remove (get_or t.buckets.items (bucket_no key) []) place) [] within)) (misses-place t.name (bucket_no key) key (get_or t.buckets.items (bucket_no key) []) place (x.keys (bucket_no key)) there)

@@ -13,7 +13,7 @@ use Rattle.std.proofs.Common.{Result, Ok, Err, IfOk}
 use Rattle.std.specs.FinMap.{get}
 use Rattle.dds_chains.specs.Content.{content}
 use Rattle.dds_chains.specs.Index.{IsIndex, IsTable}
-use Rattle.dds_chains.specs.declared.table.Table.{Table}
+use Rattle.dds_chains.specs.declared.table.Chains.{Chains}
 use Rattle.dds_chains.specs.declared.fault.TableFault.{TableFault}
 use Rattle.dds_chains.proofs.Contents.{content-found}
 use Rattle.dds_chains.proofs.Chains.{stored-page, first-page-small}
@@ -76,16 +76,16 @@ stored-place a slot next h held overflow e f =
     (subst IsHeld (sym is) h.lawful, subst (λ (o : List ℕ). IsPlaced a held o h.value) (sym f) (subst (λ (x : Held). IsPlaced a x slot.overflow h.value) (sym is) h.placed))
 
 -- what a table's pages bind a key to that has no slot
-pub get-none : (a : Pages) (table : Table) (slots : List Slot) (key : ℕ) → IsIndex table → IsTable a table → slots ≡ get_or table.buckets.items (bucket_no key) [] → place_of slots key ≡ None → None ≡ get (content a table.root) key
+pub get-none : (a : Pages) (table : Chains) (slots : List Slot) (key : ℕ) → IsIndex table → IsTable a table → slots ≡ get_or table.buckets.items (bucket_no key) [] → place_of slots key ≡ None → None ≡ get (content a table.root) key
 get-none a table slots key x t e p = sym (content-found a table key x t ∙ ap (λ (ss : List Slot). found a ss key) (sym e) ∙ found-none a slots key p)
 
 -- and to one that has
-pub get-some : (a : Pages) (table : Table) (slots : List Slot) (key i : ℕ) (slot : Slot) → IsIndex table → IsTable a table → slots ≡ get_or table.buckets.items (bucket_no key) [] → place_of slots key ≡ Some i → slot ≡ get_or slots i slot →
+pub get-some : (a : Pages) (table : Chains) (slots : List Slot) (key i : ℕ) (slot : Slot) → IsIndex table → IsTable a table → slots ≡ get_or table.buckets.items (bucket_no key) [] → place_of slots key ≡ Some i → slot ≡ get_or slots i slot →
     (r : Result (Option (List ℕ)) TableFault) → IfOk r (λ value. value ≡ Some (slot_value a slot)) → IfOk r (λ value. value ≡ get (content a table.root) key)
 get-some a table slots key i slot x t e p is (Ok value) h = h ∙ sym (content-found a table key x t ∙ ap (λ (ss : List Slot). found a ss key) (sym e) ∙ found-some a slots key i slot p is)
 get-some a table slots key i slot x t e p is (Err fault) h = tt
 
-pub slot-stored : (a : Pages) (table : Table) (slots : List Slot) (key i : ℕ) (slot : Slot) → IsTable a table → slots ≡ get_or table.buckets.items (bucket_no key) [] → i < length slots → slot ≡ get_or slots i slot →
+pub slot-stored : (a : Pages) (table : Chains) (slots : List Slot) (key i : ℕ) (slot : Slot) → IsTable a table → slots ≡ get_or table.buckets.items (bucket_no key) [] → i < length slots → slot ≡ get_or slots i slot →
     IsStored a slot (first_page (drop (suc i) slots)) × (first_page (drop (suc i) slots) < 2 ^ 64)
 slot-stored a table slots key i slot t e below is =
     let s = stored-at a slots i slot (subst (IsChain a) (sym e) (t.chains (bucket_no key))) below is in

@@ -8,7 +8,7 @@ use Rattle.dds_chains.specs.Index.{IsChain, found, chain_uses}
 use Rattle.dds_chains.specs.declared.table.Slot.{Slot}
 use Rattle.dds_chains.specs.Content.{Map, content}
 use Rattle.dds_chains.specs.Index.{IsSpread, IsPlaced, IsTable, vacant, table_uses}
-use Rattle.dds_chains.specs.declared.table.Table.{Table}
+use Rattle.dds_chains.specs.declared.table.Chains.{Chains}
 use Rattle.dds_chains.specs.declared.fault.TableFault.{TableFault}
 use Rattle.dds_chains.specs.declared.fault.TableFault.TheVariants.{Disk, Page, Memory}
 
@@ -44,7 +44,7 @@ pub record WroteValue (a : Pages) (free : List ℕ) (fresh : ℕ) (told : Option
   pub kept : KeepsUsed a b free fresh
 
 -- a table's pages were changed, and no page that was in another use
-pub record Changed (a : Pages) (free : List ℕ) (fresh : ℕ) (was : Table) (told : Option Pages) (now : Table) (bound : Map) : Type 0 where
+pub record Changed (a : Pages) (free : List ℕ) (fresh : ℕ) (was : Chains) (told : Option Pages) (now : Chains) (bound : Map) : Type 0 where
   pub b : Pages
   pub is_told : told ≡ Some b
   pub table : IsTable b now
@@ -52,7 +52,7 @@ pub record Changed (a : Pages) (free : List ℕ) (fresh : ℕ) (was : Table) (to
   pub binds : content b now.root ≡ bound
 
 -- a table was made of a page that was in no use
-pub record Made (a : Pages) (free : List ℕ) (fresh : ℕ) (told : Option Pages) (now : Table) : Type 0 where
+pub record Made (a : Pages) (free : List ℕ) (fresh : ℕ) (told : Option Pages) (now : Chains) : Type 0 where
   pub b : Pages
   pub is_told : told ≡ Some b
   pub table : IsTable b now

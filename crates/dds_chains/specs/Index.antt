@@ -12,7 +12,7 @@ use Rattle.dds_chains.specs.Content.{value_in}
 use Rattle.dds_pages.specs.Said.{bucket_in}
 use Rattle.dds_base.specs.Place.{bucket as bucket_no}
 use Rattle.dds_chains.specs.declared.table.Slot.{Slot}
-use Rattle.dds_chains.specs.declared.table.Table.{Table}
+use Rattle.dds_chains.specs.declared.table.Chains.{Chains}
 
 -- how many times a number stands
 abbrev pub same : ℕ → ℕ → ℕ
@@ -34,10 +34,10 @@ abbrev pub buckets_use : ℕ → List (List Slot) → ℕ
 buckets_use q [] = 0
 buckets_use q (slots ∷ buckets) = chain_uses q slots + buckets_use q buckets
 
-abbrev pub table_uses : ℕ → Table → ℕ
+abbrev pub table_uses : ℕ → Chains → ℕ
 table_uses q table = same q table.root + buckets_use q table.buckets.items
 
-abbrev pub tables_use : ℕ → List Table → ℕ
+abbrev pub tables_use : ℕ → List Chains → ℕ
 tables_use q [] = 0
 tables_use q (table ∷ tables) = table_uses q table + tables_use q tables
 
@@ -120,13 +120,13 @@ total [] = 0
 total (slots ∷ buckets) = length slots + total buckets
 
 -- what is true of a table in memory
-pub record IsIndex (table : Table) : Type 0 where
+pub record IsIndex (table : Chains) : Type 0 where
   pub long : length table.buckets.items ≡ 256
   pub few : table.len ≤ 16384
   pub keys : (bucket : ℕ) → AreKeysOf table.name bucket (get_or table.buckets.items bucket [])
 
 -- the pages that a disk tells are the table's
-pub record IsTable (pages : Pages) (table : Table) : Type 0 where
+pub record IsTable (pages : Pages) (table : Chains) : Type 0 where
   pub root : page_at pages table.root ≡ root_bytes 2 (record { pairs = table.len; firsts = map first_page table.buckets.items })
   pub chains : (bucket : ℕ) → IsChain pages (get_or table.buckets.items bucket [])
   pub len : table.len ≡ total table.buckets.items

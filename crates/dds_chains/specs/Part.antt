@@ -5,7 +5,7 @@ use Rattle.dds_chains.specs.Content.{Map}
 use Rattle.dds_base.specs.Place.{bucket as bucket_no, is_before, is_after}
 use Rattle.dds_chains.specs.Index.{place_of}
 use Rattle.dds_chains.specs.declared.table.Slot.{Slot}
-use Rattle.dds_chains.specs.declared.table.Table.{Table}
+use Rattle.dds_chains.specs.declared.table.Chains.{Chains}
 use Rattle.dds_base.specs.declared.pair.Pair.{Pair}
 
 -- of the keys that pass a test, the first in place after another
@@ -17,7 +17,7 @@ IsNext has after (Some key) = (has key ≡ true) × (is_after after key ≡ true
 abbrev pub in_chain : List Slot → ℕ → Bool
 in_chain slots q = is_some (place_of slots q)
 
-abbrev pub has_key : Table → ℕ → Bool
+abbrev pub has_key : Chains → ℕ → Bool
 has_key table q = in_chain (get_or table.buckets.items (bucket_no q) []) q
 
 -- the pairs next in place, at most so many, and whether none follow

@@ -15,14 +15,14 @@ use crate::fault::TableFault;
 use crate::pairs::add_pair;
 use crate::removal::remove_pair;
 use crate::space::Space;
-use crate::table::{Table, place_of};
+use crate::table::{Chains, place_of};
 use dds_base::value::Value;
 use dds_disk::disk::Disk;
 
 /// Binds a key to a value; whether it was bound before.
 pub fn bind<D: Disk>(
     space: &mut Space<D>,
-    table: &mut Table,
+    table: &mut Chains,
     key: u64,
     value: &Value,
 ) -> Result<bool, TableFault>
@@ -61,7 +61,7 @@ pub fn bind<D: Disk>(
 /// Unbinds a key; whether it was bound before.
 pub fn unbind<D: Disk>(
     space: &mut Space<D>,
-    table: &mut Table,
+    table: &mut Chains,
     key: u64,
 ) -> Result<bool, TableFault>
     requires index { IsIndex table.old }

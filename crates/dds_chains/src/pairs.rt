@@ -18,7 +18,7 @@ ghost use Rattle.dds_chains.specs.Answers.{IsNoPage, IsReadAs, Changed, Made};
 
 use crate::fault::TableFault;
 use crate::space::Space;
-use crate::table::{Slot, Table, first_page, no_buckets, place_of};
+use crate::table::{Slot, Chains, first_page, no_buckets, place_of};
 use crate::value::{Placed, fetch, is_place_of, len_of, place};
 use dds_base::items::Items;
 use dds_base::memory::Memory;
@@ -106,7 +106,7 @@ pub(crate) fn read_value<D: Disk>(
 /// The value of a key.
 pub fn get<D: Disk>(
     space: &mut Space<D>,
-    table: &Table,
+    table: &Chains,
     key: u64,
 ) -> Result<Option<Value>, TableFault>
     requires { IsIndex table.now }
@@ -139,7 +139,7 @@ fn pair_page(alloc: Global, key: u64, held: Held, next: u64) -> Result<BucketPag
 }
 
 /// Writes the table's root page.
-pub(crate) fn write_root<D: Disk>(space: &mut Space<D>, table: &Table) -> Result<(), TableFault>
+pub(crate) fn write_root<D: Disk>(space: &mut Space<D>, table: &Chains) -> Result<(), TableFault>
     requires long { length table.now.buckets.items ≡ 256 }
     requires few { table.now.len ≤ 16384 }
     ensures told { (a : Pages) → D.pages space.old.cache.disk ≡ Some a → OnOk result (D.pages space.new.cache.disk ≡ Some (insert a table.now.root (root_bytes 2 (record { pairs = table.now.len; firsts = map first_page table.now.buckets.items })))) }
@@ -156,7 +156,7 @@ pub(crate) fn write_root<D: Disk>(space: &mut Space<D>, table: &Table) -> Result
 }
 
 /// Makes an empty table.
-pub fn create<D: Disk>(space: &mut Space<D>, name: LeafName) -> Result<Table, TableFault>
+pub fn create<D: Disk>(space: &mut Space<D>, name: LeafName) -> Result<Chains, TableFault>
     requires { (n : ℕ) → vacant n space.old.free.items space.old.fresh ≤ 1 }
     ensures index { IfOk result (λ table. IsIndex table) }
     ensures name { IfOk result (λ table. table.name ≡ name) }
@@ -171,7 +171,7 @@ pub fn create<D: Disk>(space: &mut Space<D>, name: LeafName) -> Result<Table, Ta
     ensures never_falls { D.faults space.old.cache.disk ≤ D.faults space.new.cache.disk }
 {
     let root = space.take()?;
-    let table = Table {
+    let table = Chains {
         name,
         root,
         len: 0,
@@ -186,7 +186,7 @@ pub fn create<D: Disk>(space: &mut Space<D>, name: LeafName) -> Result<Table, Ta
 /// Adds a pair of a key that the table hasn't.
 pub(crate) fn add_pair<D: Disk>(
     space: &mut Space<D>,
-    table: &mut Table,
+    table: &mut Chains,
     key: u64,
     value: &Value,
 ) -> Result<(), TableFault>

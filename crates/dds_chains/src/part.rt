@@ -15,7 +15,7 @@ ghost use Rattle.dds_base.specs.Place.{is_before};
 use crate::fault::TableFault;
 use crate::pairs::get;
 use crate::space::Space;
-use crate::table::{Slot, Table};
+use crate::table::{Slot, Chains};
 use dds_base::pair::{Pair, PairList};
 use dds_base::place::{is_after, is_before};
 use dds_disk::disk::Disk;
@@ -52,7 +52,7 @@ fn least(slots: &[Slot], after: Option<u64>) -> Option<u64>
 }
 
 /// The first key of a table in place after another.
-fn next_key(table: &Table, after: Option<u64>) -> Option<u64>
+fn next_key(table: &Chains, after: Option<u64>) -> Option<u64>
     requires { IsIndex table.now }
     ensures { IsNext (has_key table.now) after result }
 {
@@ -69,7 +69,7 @@ fn next_key(table: &Table, after: Option<u64>) -> Option<u64>
 /// Reads the pairs next in place.
 pub fn read_part<D: Disk>(
     space: &mut Space<D>,
-    table: &Table,
+    table: &Chains,
     start: Option<u64>,
     most: usize,
 ) -> Result<Part, TableFault>

@@ -17,7 +17,7 @@ ghost use Rattle.dds_chains.specs.Lawful.{IsSilent, IsChainRefused, IsTableRefus
 use crate::fault::TableFault;
 use crate::pairs::{read_bucket, write_root};
 use crate::space::Space;
-use crate::table::{Slot, Table, first_page};
+use crate::table::{Slot, Chains, first_page};
 use dds_base::memory::Memory;
 use dds_disk::disk::Disk;
 use dds_pages::bucket::BucketPage;
@@ -85,7 +85,7 @@ pub(crate) fn release<D: Disk>(space: &mut Space<D>, slot: &Slot) -> Result<(), 
 /// Takes out the pair at a place of the chain of its key's bucket.
 pub(crate) fn remove_pair<D: Disk>(
     space: &mut Space<D>,
-    table: &mut Table,
+    table: &mut Chains,
     key: u64,
     place: usize,
 ) -> Result<(), TableFault>
@@ -127,7 +127,7 @@ fn release_chain<D: Disk>(space: &mut Space<D>, slots: &[Slot]) -> Result<(), Me
 }
 
 /// Takes all pages of a table back.
-fn release_table<D: Disk>(space: &mut Space<D>, table: &Table) -> Result<(), Memory>
+fn release_table<D: Disk>(space: &mut Space<D>, table: &Chains) -> Result<(), Memory>
     ensures cache { space.new.cache ≡ space.old.cache }
     ensures number { OnOk result ((n : ℕ) → vacant n space.new.free.items space.new.fresh ≡ vacant n space.old.free.items space.old.fresh + table_uses n table.now) }
 {
@@ -139,7 +139,7 @@ fn release_table<D: Disk>(space: &mut Space<D>, table: &Table) -> Result<(), Mem
 }
 
 /// Takes back the pages of the table that was dropped last.
-pub fn reclaim<D: Disk>(space: &mut Space<D>, dropped: &mut Vec<Table>) -> Result<(), Memory>
+pub fn reclaim<D: Disk>(space: &mut Space<D>, dropped: &mut Vec<Chains>) -> Result<(), Memory>
     ensures cache { space.new.cache ≡ space.old.cache }
     ensures number { OnOk result ((n : ℕ) → vacant n space.new.free.items space.new.fresh + tables_use n dropped.new.items ≡ vacant n space.old.free.items space.old.fresh + tables_use n dropped.old.items) }
     ensures shorter { length dropped.new.items ≤ length dropped.old.items }

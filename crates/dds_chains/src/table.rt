@@ -26,9 +26,9 @@ pub struct Slot {
     pub overflow: Items<u64>,
 }
 
-/// A table's root page, its number of pairs, and the slots of each bucket in the order of its chain.
+/// The chains of a table: its root page, its number of pairs, and the slots of each bucket in the order of its chain.
 #[derive(Drop)]
-pub struct Table {
+pub struct Chains {
     pub name: LeafName,
     pub root: u64,
     pub len: u32,
@@ -79,7 +79,7 @@ pub(crate) fn no_buckets(alloc: Global) -> Result<Vec<Items<Slot>>, Memory>
     Ok(buckets)
 }
 
-impl Table {
+impl Chains {
     /// The slots of a key's bucket.
     pub(crate) fn chain(&self, key: u64) -> &[Slot]
         requires { length self.now.buckets.items ≡ 256 }

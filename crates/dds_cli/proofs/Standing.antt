@@ -5,8 +5,8 @@ use Rattle.dds_law_commit.specs.Law.{AnswersAreCaused, AreCaused, RunsStand}
 use Rattle.dds_script.specs.Opening.{OpeningOf, ScriptOf}
 use Rattle.dds_walk.specs.Walk.{steps}
 use Rattle.dds_world.specs.Stands.{Stands}
-use Rattle.dds_world.specs.Trace.{is_run, run_of}
-use Rattle.dds_world.specs.declared.step.Step.{Step}
+use Rattle.dds_cluster.specs.Trace.{is_run, run_of}
+use Rattle.dds_cluster.specs.declared.step.Step.{Step}
 
 stands-proved : RunsStand → (o : OpeningOf) (journal : List Step) → IsProvedToStand o journal → Stands (run_of o journal)
 stands-proved law o journal h = subst (λ (x : OpeningOf). Stands (run_of x journal)) (sym h.first) (law journal h.plain)

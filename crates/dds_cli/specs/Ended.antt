@@ -5,9 +5,9 @@ use Rattle.dds_base.specs.Outside.{Added, AddedPart, Rose, TookPast, TookWithin}
 use Rattle.dds_script.specs.Grammar.{Accepts, IsFirstFault}
 use Rattle.dds_script.specs.Opening.{OpeningOf, ScriptOf as Script, first_opening}
 use Rattle.dds_transcript.specs.Text.{report_text}
-use Rattle.dds_world.specs.Trace.{is_plain, is_run, run_of}
+use Rattle.dds_cluster.specs.Trace.{is_plain, is_run, run_of}
 use Rattle.dds_world.specs.Stands.{Stands}
-use Rattle.dds_world.specs.declared.step.Step.{Step}
+use Rattle.dds_cluster.specs.declared.step.Step.{Step}
 use Rattle.dds_law_commit.specs.Law.{AreCaused}
 use Rattle.dds_walk.specs.Walk.{steps, transcript}
 use Rattle.dds_ends.specs.End.{IsStepCommand, Outside, IsUnread, IsUnwritten, IsReadWhole}

@@ -4,7 +4,7 @@ use Rattle.dds_base.specs.Outside.{Added, AddedPart, Rose}
 use Rattle.dds_script.specs.Grammar.{IsFirstFault}
 use Rattle.dds_script.specs.Opening.{ScriptOf as Script}
 use Rattle.dds_transcript.specs.Text.{report_text}
-use Rattle.dds_world.specs.declared.step.Step.{Step}
+use Rattle.dds_cluster.specs.declared.step.Step.{Step}
 use Rattle.dds_walk.specs.Walk.{transcript}
 use Rattle.dds_cli.specs.Ended.{IsRunOf, IsScriptRun}
 use Rattle.dds_ends.specs.End.{IsSame}

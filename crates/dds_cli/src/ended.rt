@@ -4,7 +4,7 @@ ghost use Rattle.std.specs.Prelude.{◌≡◌, []};
 ghost use Rattle.dds_ends.specs.End.{status_of};
 
 use dds_ends::end::End;
-use dds_world::step::Journal;
+use dds_cluster::step::Journal;
 use std::alloc::Global;
 
 /// How a command ended, with its status and the journal of its steps. The journal is empty where no script was run.

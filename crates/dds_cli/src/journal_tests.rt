@@ -9,7 +9,7 @@ use dds_transcript::line_text::line_text;
 use dds_transcript::report_line::ReportLine;
 use dds_walk::reports::walk_script;
 use dds_world::runs::{calls, history, is_run};
-use dds_world::step::{Journal, Step};
+use dds_cluster::step::{Journal, Step};
 use std::alloc::Global;
 use std::process::Abort;
 use std::test::Fail;

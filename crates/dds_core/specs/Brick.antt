@@ -36,7 +36,11 @@ live_brick_turn s from (letter.CopyPart number last pairs) = copy_part_row s fro
 live_brick_turn s from (letter.Install number leaf) = install_row s from number leaf
 live_brick_turn s from (letter.Installed number name) = installed_row s from number
 live_brick_turn s from letter.Notice = notice_row s from
-live_brick_turn s from other = still s
+live_brick_turn s from (letter.Got txn answer) = still s
+live_brick_turn s from (letter.Vote txn vote) = still s
+live_brick_turn s from (letter.Applied txn was) = still s
+live_brick_turn s from (letter.Aborted txn) = still s
+live_brick_turn s from (letter.MapTell txn leaf) = still s
 
 -- what a letter does at a brick: nothing at a stopped one
 abbrev pub brick_turn : BrickState → NodeNo → Letter → BrickTurn

@@ -1,5 +1,6 @@
 -- What a library does: a call is opened, and one definition for each letter.
-use Rattle.std.specs.Prelude.{ℕ, ◌+◌, ◌-◌, ◌^◌, ◌==◌, Bool, false, List, [], ◌∷◌, ◌++◌, Option, Some, None, map, min, position, slice_get, option_to_list, if◌then◌else◌}
+use Rattle.std.specs.Prelude.{ℕ, ◌+◌, ◌-◌, ◌^◌, ◌==◌, Bool, false, List, [], ◌∷◌, ◌++◌, Option, Some, None, map, min, position, slice_get, option_to_list}
+use Rattle.std.specs.Prelude.{if◌then◌else◌}
 use Rattle.std.specs.List.{remove, insert}
 use Rattle.dds_base.specs.NodeSet.{with_node}
 use Rattle.dds_base.specs.Number.{Txn, same_txn}
@@ -9,7 +10,7 @@ use Rattle.dds_base.specs.declared.op.Op.{Op}
 use Rattle.dds_base.specs.declared.op.Reply.{Reply}
 use Rattle.dds_letters.specs.declared.letter.Letter.{Letter}
 use Rattle.dds_letters.specs.declared.letter.Letter.TheVariants as letter
-use Rattle.dds_states.specs.Turn.{LibraryTurn, no_out, both, letters_out}
+use Rattle.dds_states.specs.Turn.{LibraryTurn, no_out, both, letters_out, read_of}
 use Rattle.dds_call_rows.specs.Library.{CallTurn, stays, begin, got_in, vote_in, applied_in, aborted_in, told_in, notice_in}
 use Rattle.dds_states.specs.declared.library_state.Desk.{Desk}
 use Rattle.dds_states.specs.declared.library_state.LibraryState.{LibraryState}
@@ -36,16 +37,20 @@ least_attempt cs = least_of (2 ^ 64 - 1) cs
 -- what a call works with beside these other open calls
 abbrev pub desk_of : LibraryState → List OpenCall → Desk
 desk_of s others =
-    record { map = s.map; known = s.known; numbers = record { library = s.number; bricks = s.bricks; next = s.next; below = least_attempt others } }
+    record {
+      map = s.map;
+      known = s.known;
+      numbers = record { library = s.number; bricks = s.bricks; next = s.next; below = least_attempt others };
+    }
 
 -- the library after one call's turn, with these open calls
 abbrev pub after_turn : LibraryState → Desk → List OpenCall → LibraryState
 after_turn s d calls = record s { map = d.map; next = d.numbers.next; calls = calls }
 
--- the answer of a call, with the attempt that gave it
+-- the answer of a call, which this attempt gave
 abbrev pub replies_of : ℕ → CallNo → Txn → Option Reply → List Replied
 replies_of caller call txn None = []
-replies_of caller call txn (Some reply) = Call txn caller call reply ∷ []
+replies_of caller call txn (Some reply) = Call (read_of txn reply) caller call reply ∷ []
 
 -- what one call's turn gives
 abbrev pub given : Went → Request → Txn → CoreTurn
@@ -58,11 +63,15 @@ new_request caller call o = record { caller = caller; call = call; op = o; retri
 -- a call is opened and begins; at a stopped library nothing is done
 abbrev pub input_turn : LibraryState → Request → CallTurn → LibraryTurn
 input_turn s r t =
-    record { state = after_turn s t.desk (s.calls ++ option_to_list t.went.call); out = given t.went r (record { library = s.number; number = s.next }) }
+    record {
+      state = after_turn s t.desk (s.calls ++ option_to_list t.went.call);
+      out = given t.went r (record { library = s.number; number = s.next });
+    }
 
 abbrev pub library_input : LibraryState → ℕ → CallNo → Op → LibraryTurn
 library_input s caller call o =
-    if s.stopped then keeps s else input_turn s (new_request caller call o) (begin (desk_of s s.calls) (new_request caller call o))
+    if s.stopped then keeps s
+    else input_turn s (new_request caller call o) (begin (desk_of s s.calls) (new_request caller call o))
 
 -- what a letter does to one open call; those to bricks do nothing
 abbrev pub call_row : Desk → OpenCall → NodeNo → Letter → CallTurn
@@ -72,7 +81,24 @@ call_row d c from (letter.Applied txn was) = applied_in d c from was c.phase
 call_row d c from (letter.Aborted txn) = aborted_in d c from c.phase
 call_row d c from (letter.MapTell txn leaf) = told_in d c from leaf c.phase
 call_row d c from letter.Notice = notice_in d c from
-call_row d c from other = stays d [] c
+call_row d c from (letter.Get txn caller call key name stamp) = stays d [] c
+call_row d c from (letter.Prepare txn caller call below name stamp list op) = stays d [] c
+call_row d c from (letter.Commit txn) = stays d [] c
+call_row d c from (letter.Abort txn) = stays d [] c
+call_row d c from (letter.Push leaf) = stays d [] c
+call_row d c from (letter.MapAsk txn caller call key) = stays d [] c
+call_row d c from (letter.Help txn list) = stays d [] c
+call_row d c from (letter.Query txn list) = stays d [] c
+call_row d c from (letter.Status txn status) = stays d [] c
+call_row d c from (letter.Outcome txn commit) = stays d [] c
+call_row d c from (letter.Lease number what) = stays d [] c
+call_row d c from (letter.Granted number leaf) = stays d [] c
+call_row d c from (letter.LeaseRefused number refusal) = stays d [] c
+call_row d c from (letter.Release number name) = stays d [] c
+call_row d c from (letter.CopyAsk number name after) = stays d [] c
+call_row d c from (letter.CopyPart number last pairs) = stays d [] c
+call_row d c from (letter.Install number leaf) = stays d [] c
+call_row d c from (letter.Installed number name) = stays d [] c
 
 -- the calls with the one at a place after its turn
 abbrev pub put_back : List OpenCall → ℕ → Option OpenCall → List OpenCall
@@ -110,7 +136,25 @@ attempt_of (letter.Vote txn vote) = Some txn
 attempt_of (letter.Applied txn was) = Some txn
 attempt_of (letter.Aborted txn) = Some txn
 attempt_of (letter.MapTell txn leaf) = Some txn
-attempt_of other = None
+attempt_of (letter.Get txn caller call key name stamp) = None
+attempt_of (letter.Prepare txn caller call below name stamp list op) = None
+attempt_of (letter.Commit txn) = None
+attempt_of (letter.Abort txn) = None
+attempt_of (letter.Push leaf) = None
+attempt_of (letter.MapAsk txn caller call key) = None
+attempt_of (letter.Help txn list) = None
+attempt_of (letter.Query txn list) = None
+attempt_of (letter.Status txn status) = None
+attempt_of (letter.Outcome txn commit) = None
+attempt_of (letter.Lease number what) = None
+attempt_of (letter.Granted number leaf) = None
+attempt_of (letter.LeaseRefused number refusal) = None
+attempt_of (letter.Release number name) = None
+attempt_of (letter.CopyAsk number name after) = None
+attempt_of (letter.CopyPart number last pairs) = None
+attempt_of (letter.Install number leaf) = None
+attempt_of (letter.Installed number name) = None
+attempt_of letter.Notice = None
 
 -- a letter of an attempt does something only to the open call that has this attempt
 abbrev pub at_attempt : LibraryState → NodeNo → Letter → Option Txn → LibraryTurn

@@ -11,7 +11,8 @@ use Rattle.dds_letters.specs.declared.letter.Letter.TheVariants as letter
 use Rattle.dds_locks.specs.Leases.{released_all}
 use Rattle.dds_states.specs.Turn.{BrickTurn, still, sends, and_then, without, unknown}
 use Rattle.dds_order_rows.specs.OwnOrder.{ends, leases_on, copies, installs_on, going_on, with_order}
-use Rattle.dds_brick_rows.specs.Resolution.{before, help_row, query_row, is_resolved, resolve, resolves_on, unwaited}
+use Rattle.dds_brick_rows.specs.Resolution.{before, help_row, query_row, is_resolved, resolve, all_hear}
+use Rattle.dds_brick_rows.specs.declared.resolution.News.TheVariants as news
 use Rattle.dds_states.specs.declared.brick_state.BrickState.{BrickState}
 use Rattle.dds_states.specs.declared.brick_state.Deferred.{Deferred}
 use Rattle.dds_states.specs.declared.brick_state.OpenOrder.{OpenOrder}
@@ -19,7 +20,6 @@ use Rattle.dds_states.specs.declared.brick_state.OrderPhase.{OrderPhase}
 use Rattle.dds_states.specs.declared.brick_state.OrderPhase.TheVariants.{Leasing, Copying, Installing}
 use Rattle.dds_states.specs.declared.brick_state.Question.{Question}
 use Rattle.dds_states.specs.declared.brick_state.Question.TheVariants.{Help, Query}
-use Rattle.dds_states.specs.declared.brick_state.Resolving.{Resolving}
 use Rattle.dds_states.specs.declared.brick_state.Task.{Task}
 use Rattle.dds_states.specs.declared.brick_state.Task.TheVariants as task
 
@@ -62,18 +62,9 @@ abbrev pub order_part : BrickState → NodeNo → BrickTurn
 order_part s y =
     if concerns_some y s.order then with_order s (λ t o. order_goes t o y o.phase) s.order else still s
 
--- one resolving, which isn't in the state's list, goes on without the node
-abbrev pub resolving_goes : BrickState → NodeNo → Resolving → BrickTurn
-resolving_goes s y r =
-    if has r.waiting y then resolves_on s (unwaited r y) else still (record s { resolving = s.resolving ++ r ∷ [] })
-
-abbrev pub resolvings_go : BrickState → NodeNo → List Resolving → BrickTurn
-resolvings_go s y [] = still s
-resolvings_go s y (r ∷ rs) = and_then (resolving_goes s y r) (λ t. resolvings_go t y rs)
-
 -- each resolving goes on without the node
 abbrev pub resolving_part : BrickState → NodeNo → BrickTurn
-resolving_part s y = resolvings_go (record s { resolving = [] }) y s.resolving
+resolving_part s y = all_hear s y news.Stopped
 
 abbrev pub asked_again : BrickState → Deferred → Question → BrickTurn
 asked_again s d Help = help_row s d.from d.txn d.list
@@ -83,7 +74,8 @@ abbrev pub asked_all_again : BrickState → List Deferred → BrickTurn
 asked_all_again s [] = still s
 asked_all_again s (d ∷ ds) = and_then (asked_again s d d.question) (λ t. asked_all_again t ds)
 
--- each deferred letter is handled, and deferred again where it isn't ready
+-- each deferred letter is handled, in the order in which they came: one that isn't ready is deferred again, in the same
+-- order, so that this does what handling the ready ones alone would do
 abbrev pub deferred_part : BrickState → BrickTurn
 deferred_part s = asked_all_again (record s { deferred = [] }) s.deferred
 

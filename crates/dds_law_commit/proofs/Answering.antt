@@ -10,13 +10,14 @@ use Rattle.dds_history.specs.Map.{Map, after, found as found_reply, flag_of, rep
 use Rattle.dds_letters.specs.declared.letter.Letter.TheVariants as letter
 use Rattle.dds_locks.specs.Outcomes.{OutcomeMap}
 use Rattle.dds_script.specs.Opening.{first_leaf, first_opening}
+use Rattle.dds_world.specs.Stands.{is_result}
 use Rattle.dds_states.specs.declared.library_state.Phase.TheVariants.{Getting}
-use Rattle.dds_world.specs.Trace.{run_of}
-use Rattle.dds_world.specs.declared.step.Step.{Step}
-use Rattle.dds_world.specs.declared.step.Step.TheVariants as step
-use Rattle.dds_world.specs.declared.trace.Asked.{Asked}
+use Rattle.dds_cluster.specs.Trace.{run_of}
+use Rattle.dds_cluster.specs.declared.step.Step.{Step}
+use Rattle.dds_cluster.specs.declared.step.Step.TheVariants as step
+use Rattle.dds_cluster.specs.declared.trace.Asked.{Asked}
 use Rattle.dds_law_commit.proofs.Flight.{Settled, askeds, mades, tolds, table, Stage, asked, found, voted, decided, applied, denied, undone, aborted, idle, moving, trace_in, the_trace, the_caller, the_point, library_in, IsRight, IsGood}
-use Rattle.dds_law_commit.proofs.Good.{mades-push, length-push, table-push, table-kept, answered, refused, IsResult, settle-result, settle-refusal}
+use Rattle.dds_law_commit.proofs.Good.{mades-push, length-push, table-push, table-kept, answered, refused, settle-result, settle-refusal}
 use Rattle.dds_law_commit.proofs.Rows.{committing, aborting, row-got, row-applied, row-aborted}
 use Rattle.dds_law_commit.proofs.Scene.{the_brick, the_library, the_txn, at_rest}
 use Rattle.dds_law_commit.proofs.Steps.{handle-answer}
@@ -43,15 +44,15 @@ get-leaves m (op.Put key value) h = cc
 get-leaves m (op.Remove key) h = cc
 get-leaves m (op.Swap key expected value) h = cc
 
-result-found : (bound : Option (List ℕ)) → IsResult (found_reply bound)
-result-found None = tt
-result-found (Some value) = tt
+result-found : (bound : Option (List ℕ)) → is_result (found_reply bound) ≡ true
+result-found None = refl
+result-found (Some value) = refl
 
-result-update : (o : Op) (flag : Bool) → IsResult (reply_with o flag)
-result-update (op.Get key) flag = tt
-result-update (op.Put key value) flag = tt
-result-update (op.Remove key) flag = tt
-result-update (op.Swap key expected value) flag = tt
+result-update : (o : Op) (flag : Bool) → is_result (reply_with o flag) ≡ true
+result-update (op.Get key) flag = refl
+result-update (op.Put key value) flag = refl
+result-update (op.Remove key) flag = refl
+result-update (op.Swap key expected value) flag = refl
 
 good-found : (journal : List Step) (xs : List Settled) (n k least : ℕ) (os : OutcomeMap) (a : Asked) (p : ℕ) → run_of first_opening journal ≡ trace_in xs n k least os (moving true (found p) a) → IsRight journal xs n least (moving true (found p) a) → IsGood (journal ++ (step.Handle 64 0) ∷ [])
 good-found journal xs n k least os a p run right =
@@ -61,7 +62,7 @@ good-found journal xs n k least os a p run right =
     let update = right.open_call.1.1 in
     good journal _ _ run (xs ++ x ∷ []) (n + 1) (k + 1) least os idle
     (handle-answer (the_brick (table xs) [] os) (library_in xs a (Getting first_leaf 0)) (the_library (length xs + 1) []) k n (length xs) (letter.Got (the_txn (length xs)) (answer_of bound)) a r least (Some a.call) (askeds xs ++ a ∷ []) (mades xs ++ the_point xs a p ∷ []) (tolds xs) right.open_call.0.caller (row-got (length xs) (length xs + 1) (the_key a.op) a bound)
-    ∙ settled xs x (table xs) os n k least (get-leaves (table xs) a.op update ∙ sym (table-push xs a (the_point xs a p) x.told)))
+    ∙ settled xs x (table xs) os n k least (get-leaves (table xs) a.op update ∙ sym (table-push xs a (the_txn (length xs)) (the_point xs a p) x.told)))
     (settle-result journal _ xs n least p (moving true (found p) a) a r right right.open_call.0 right.open_call.1.0 (get-reply (table xs) a.op update) (result-found bound))
 
 good-applied : (journal : List Step) (xs : List Settled) (n k least : ℕ) (os : OutcomeMap) (a : Asked) (p : ℕ) → run_of first_opening journal ≡ trace_in xs n k least os (moving true (applied p) a) → IsRight journal xs n least (moving true (applied p) a) → IsGood (journal ++ (step.Handle 64 0) ∷ [])
@@ -71,7 +72,7 @@ good-applied journal xs n k least os a p run right =
     let x = answered xs n p a r in
     good journal _ _ run (xs ++ x ∷ []) (n + 1) (k + 1) least os idle
     (handle-answer (the_brick (after (table xs) a.op) [] os) (library_in xs a committing) (the_library (length xs + 1) []) k n (length xs) (letter.Applied (the_txn (length xs)) flag) a r least (Some a.call) (askeds xs ++ a ∷ []) (mades xs ++ the_point xs a p ∷ []) (tolds xs) right.open_call.0.caller (row-applied (length xs) (length xs + 1) a flag)
-    ∙ settled xs x (after (table xs) a.op) os n k least (sym (table-push xs a (the_point xs a p) x.told)))
+    ∙ settled xs x (after (table xs) a.op) os n k least (sym (table-push xs a (the_txn (length xs)) (the_point xs a p) x.told)))
     (settle-result journal _ xs n least p (moving true (applied p) a) a r right right.open_call.0 right.open_call.1.0 (update-reply (table xs) a.op right.open_call.1.1) (result-update a.op flag))
 
 good-aborted : (journal : List Step) (xs : List Settled) (n k least : ℕ) (os : OutcomeMap) (a : Asked) → run_of first_opening journal ≡ trace_in xs n k least os (moving true aborted a) → IsRight journal xs n least (moving true aborted a) → IsGood (journal ++ (step.Handle 64 0) ∷ [])
@@ -79,7 +80,7 @@ good-aborted journal xs n k least os a run right =
     let x = refused xs n a in
     good journal _ _ run (xs ++ x ∷ []) (n + 1) (k + 1) least os idle
     (handle-answer (the_brick (table xs) [] os) (library_in xs a aborting) (the_library (length xs + 1) []) k n (length xs) (letter.Aborted (the_txn (length xs))) a (reply.Full 0) least (Some a.call) (askeds xs ++ a ∷ []) (mades xs ++ []) (tolds xs) right.open_call.0.caller (row-aborted (length xs) (length xs + 1) a)
-    ∙ settled xs x (table xs) os n k least (sym (table-kept xs a x.told)))
+    ∙ settled xs x (table xs) os n k least (sym (table-kept xs a (the_txn (length xs)) x.told)))
     (settle-refusal journal _ xs n least (moving true aborted a) a right right.open_call.0 right.open_full)
 
 -- the step that a posted letter waits for

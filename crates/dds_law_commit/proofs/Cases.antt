@@ -7,16 +7,16 @@ use Rattle.dds_base.specs.declared.op.Op.{Op}
 use Rattle.dds_letters.specs.declared.letter.Letter.{Letter}
 use Rattle.dds_states.specs.declared.brick_state.BrickState.{BrickState}
 use Rattle.dds_states.specs.declared.library_state.LibraryState.{LibraryState}
-use Rattle.dds_world.specs.Trace.{next, adds, is_plain, is_possible}
-use Rattle.dds_world.specs.Turn.{turn}
-use Rattle.dds_world.specs.World.{World, is_node}
-use Rattle.dds_world.specs.declared.step.Input.TheVariants as input
-use Rattle.dds_world.specs.declared.step.Step.{Step}
-use Rattle.dds_world.specs.declared.step.Step.TheVariants as step
-use Rattle.dds_world.specs.declared.trace.Asked.{Asked}
-use Rattle.dds_world.specs.declared.trace.Made.{Made}
-use Rattle.dds_world.specs.declared.trace.Told.{Told}
-use Rattle.dds_world.specs.declared.trace.Trace.{Trace}
+use Rattle.dds_cluster.specs.Trace.{next, adds, is_plain, is_possible}
+use Rattle.dds_cluster.specs.Turn.{turn}
+use Rattle.dds_cluster.specs.World.{World, is_node}
+use Rattle.dds_cluster.specs.declared.step.Input.TheVariants as input
+use Rattle.dds_cluster.specs.declared.step.Step.{Step}
+use Rattle.dds_cluster.specs.declared.step.Step.TheVariants as step
+use Rattle.dds_cluster.specs.declared.trace.Asked.{Asked}
+use Rattle.dds_cluster.specs.declared.trace.Made.{Made}
+use Rattle.dds_cluster.specs.declared.trace.Told.{Told}
+use Rattle.dds_cluster.specs.declared.trace.Trace.{Trace}
 use Rattle.dds_law_commit.proofs.Flight.{the_trace, the_caller}
 use Rattle.dds_law_commit.proofs.Scene.{at_rest, to_brick, to_library}
 

@@ -13,18 +13,18 @@ use Rattle.dds_history.specs.History.{IsLegal}
 use Rattle.dds_base.specs.declared.number.NodeNo.{NodeNo}
 use Rattle.dds_locks.specs.Outcomes.{OutcomeMap}
 use Rattle.dds_script.specs.Opening.{first_opening}
-use Rattle.dds_world.specs.Stands.{Stands, answers, answer_to, placed_history, HasOneEntry, ResultHasOneEntry, AnsweredOnce, AnsweredOnceBy, RefusalHasNone, RefusedNever, RefusedNeverBy, LostHasAtMostOne, UnansweredOnceOrNever, UnansweredOnceOrNeverBy, AtMostOneAfter, IsOfACall}
+use Rattle.dds_world.specs.Stands.{Stands, answers, answer_to, placed_history, HasOneEntry, is_result, is_refusal, AnsweredOnce, AnsweredOnceBy, RefusedNever, RefusedNeverBy, UnansweredOnceOrNever, UnansweredOnceOrNeverBy, AtMostOneAfter, IsOfACall}
 use Rattle.dds_world.specs.Causes.{CausedBy, FullBy}
-use Rattle.dds_world.specs.Trace.{run_of}
-use Rattle.dds_world.specs.declared.step.Step.{Step}
-use Rattle.dds_world.specs.declared.trace.Asked.{Asked}
-use Rattle.dds_world.specs.declared.trace.Made.{Made}
-use Rattle.dds_world.specs.declared.trace.Told.{Told}
-use Rattle.dds_world.specs.declared.trace.Trace.{Trace}
+use Rattle.dds_cluster.specs.Trace.{run_of}
+use Rattle.dds_cluster.specs.declared.step.Step.{Step}
+use Rattle.dds_cluster.specs.declared.trace.Asked.{Asked}
+use Rattle.dds_cluster.specs.declared.trace.Made.{Made}
+use Rattle.dds_cluster.specs.declared.trace.Told.{Told}
+use Rattle.dds_cluster.specs.declared.trace.Trace.{Trace}
 use Rattle.dds_law_commit.proofs.Flight.{Settled, IsSettled, IsAnswered, HasOnePoint, IsPointOf, askeds, mades, tolds, entries, Stage, asked, found, voted, decided, applied, denied, undone, aborted, Flight, idle, moving, trace_in, asked_in, the_point, FullIf, IsRight, IsGood}
-use Rattle.dds_law_commit.specs.Law.{IsCaused, AreCaused}
+use Rattle.dds_law_commit.specs.Law.{IsCaused, AreCaused, is_again_or_lost}
 use Rattle.dds_law_commit.proofs.Journals.{WasFull}
-use Rattle.dds_law_commit.proofs.Good.{all-mades}
+use Rattle.dds_law_commit.proofs.Good.{all-mades, not-both}
 use Rattle.dds_law_commit.proofs.Lists.{all-weaker, all-both, all-map, all-append, filter-all}
 use Rattle.dds_law_commit.proofs.Standing.{belongs, IsFound, extra, placed, all-found, same-call, other-call, no-points, more-apart}
 
@@ -38,39 +38,39 @@ record IsDue (rs : List Told) (ms : List Made) (a : Asked) : Type 0 where
 one-entry : (ms : List Made) (a : Asked) (made : List Made) (told : Told) → filter (belongs a) ms ≡ made → HasOnePoint a made told → HasOneEntry ms a told
 one-entry ms a made told e h = record { entry = h.point; only = e ∙ h.only; reply = h.reply; after_input = h.after_input; before_answer = h.before_answer }
 
-due-once : (ms : List Made) (a : Asked) (made : List Made) (told : Told) (r : Reply) → filter (belongs a) ms ≡ made → IsAnswered a made told r → ResultHasOneEntry ms a told r
-due-once ms a made told (reply.Value v) e h = one-entry ms a made told e h
-due-once ms a made told reply.Absent e h = one-entry ms a made told e h
-due-once ms a made told (reply.Done w) e h = one-entry ms a made told e h
-due-once ms a made told (reply.Swapped d) e h = one-entry ms a made told e h
-due-once ms a made told (reply.Again m) e h = tt
-due-once ms a made told (reply.Full b) e h = tt
-due-once ms a made told (reply.Lost n) e h = tt
+due-once : (ms : List Made) (a : Asked) (made : List Made) (told : Told) (r : Reply) → filter (belongs a) ms ≡ made → IsAnswered a made told r → is_result r ≡ true → HasOneEntry ms a told
+due-once ms a made told (reply.Value v) e h i = one-entry ms a made told e h
+due-once ms a made told reply.Absent e h i = one-entry ms a made told e h
+due-once ms a made told (reply.Done w) e h i = one-entry ms a made told e h
+due-once ms a made told (reply.Swapped d) e h i = one-entry ms a made told e h
+due-once ms a made told (reply.Again m) e h i = absurd h
+due-once ms a made told (reply.Full b) e h i = absurd (not-both false i refl)
+due-once ms a made told (reply.Lost n) e h i = absurd h
 
-due-never : (ms : List Made) (a : Asked) (made : List Made) (told : Told) (r : Reply) → filter (belongs a) ms ≡ made → IsAnswered a made told r → RefusalHasNone ms a r
-due-never ms a made told (reply.Value v) e h = tt
-due-never ms a made told reply.Absent e h = tt
-due-never ms a made told (reply.Done w) e h = tt
-due-never ms a made told (reply.Swapped d) e h = tt
-due-never ms a made told (reply.Again m) e h = absurd h
-due-never ms a made told (reply.Full b) e h = e ∙ h
-due-never ms a made told (reply.Lost n) e h = tt
+due-never : (ms : List Made) (a : Asked) (made : List Made) (told : Told) (r : Reply) → filter (belongs a) ms ≡ made → IsAnswered a made told r → is_refusal r ≡ true → filter (belongs a) ms ≡ []
+due-never ms a made told (reply.Value v) e h i = absurd (not-both false i refl)
+due-never ms a made told reply.Absent e h i = absurd (not-both false i refl)
+due-never ms a made told (reply.Done w) e h i = absurd (not-both false i refl)
+due-never ms a made told (reply.Swapped d) e h i = absurd (not-both false i refl)
+due-never ms a made told (reply.Again m) e h i = absurd h
+due-never ms a made told (reply.Full b) e h i = e ∙ h
+due-never ms a made told (reply.Lost n) e h i = absurd h
 
-due-lost : (ms : List Made) (a : Asked) (made : List Made) (told : Told) (r : Reply) → IsAnswered a made told r → LostHasAtMostOne ms a r
-due-lost ms a made told (reply.Value v) h = tt
-due-lost ms a made told reply.Absent h = tt
-due-lost ms a made told (reply.Done w) h = tt
-due-lost ms a made told (reply.Swapped d) h = tt
-due-lost ms a made told (reply.Again m) h = tt
-due-lost ms a made told (reply.Full b) h = tt
-due-lost ms a made told (reply.Lost n) h = absurd h
+due-rest : (ms : List Made) (a : Asked) (made : List Made) (told : Told) (r : Reply) → filter (belongs a) ms ≡ made → IsAnswered a made told r → is_result r ≡ false → AtMostOneAfter a.place (filter (belongs a) ms)
+due-rest ms a made told (reply.Value v) e h i = absurd (not-both true refl i)
+due-rest ms a made told reply.Absent e h i = absurd (not-both true refl i)
+due-rest ms a made told (reply.Done w) e h i = absurd (not-both true refl i)
+due-rest ms a made told (reply.Swapped d) e h i = absurd (not-both true refl i)
+due-rest ms a made told (reply.Again m) e h i = absurd h
+due-rest ms a made told (reply.Full b) e h i = subst (AtMostOneAfter a.place) (sym (e ∙ h)) tt
+due-rest ms a made told (reply.Lost n) e h i = absurd h
 
 settled-due : (rs : List Told) (ms : List Made) (x : Settled) → IsSettled x → IsFound rs ms x → IsDue rs ms x.asked
 settled-due rs ms x s f =
     record {
       once = subst (AnsweredOnceBy ms x.asked) (sym f.0) (due-once ms x.asked x.made x.told x.told.reply f.1 s.answer);
       never = subst (RefusedNeverBy ms x.asked) (sym f.0) (due-never ms x.asked x.made x.told x.told.reply f.1 s.answer);
-      or_never = subst (UnansweredOnceOrNeverBy ms x.asked) (sym f.0) (due-lost ms x.asked x.made x.told x.told.reply s.answer);
+      or_never = subst (UnansweredOnceOrNeverBy ms x.asked) (sym f.0) (due-rest ms x.asked x.made x.told x.told.reply f.1 s.answer);
     }
 
 -- of an open call
@@ -106,7 +106,7 @@ of-last (q ∷ qs) a m h = inr (of-last qs a m h)
 settled-of-calls : (xs : List Settled) (rest : List Asked) → AllByRecursion IsSettled xs → AllByRecursion (λ x. AllByRecursion (IsOfACall (askeds xs ++ rest)) x.made) xs
 settled-of-calls [] rest h = tt
 settled-of-calls (x ∷ xs) rest h = (
-  all-weaker (IsPointOf x.asked x.told.txn) (IsOfACall (askeds (x ∷ xs) ++ rest)) (λ m p. inl (p.caller, p.call, p.op)) x.made h.0.points,
+  all-weaker (IsPointOf x.asked x.txn x.told) (IsOfACall (askeds (x ∷ xs) ++ rest)) (λ m p. inl (p.caller, p.call, p.op)) x.made h.0.points,
   all-weaker (λ y. AllByRecursion (IsOfACall (askeds xs ++ rest)) y.made) (λ y. AllByRecursion (IsOfACall (askeds (x ∷ xs) ++ rest)) y.made) (λ y k. all-weaker (IsOfACall (askeds xs ++ rest)) (IsOfACall (askeds (x ∷ xs) ++ rest)) (λ m i. inr i) y.made k) xs (settled-of-calls xs rest h.1),
 )
 
@@ -130,9 +130,6 @@ nothing-more journal xs n least posted stage a r =
       of_calls = tt;
       legal = rw (append-nil (entries xs)) r.legal;
     }
-
-not-both : (b : Bool) → b ≡ true → b ≡ false → ⊥
-not-both b e f = cc
 
 extra-of : (journal : List Step) (xs : List Settled) (n least : ℕ) (f : Flight) → IsRight journal xs n least f → IsExtra xs (extra xs f) (asked_in f)
 extra-of journal xs n least idle r = record { later = all-empty (λ (x : Settled) m. x.asked.call.0 < m.entry.call.0) xs; dues = tt; of_calls = tt; legal = rw (append-nil (entries xs)) r.legal }
@@ -215,3 +212,18 @@ causes-in journal xs n k least os f r =
 -- and each answer of it has its cause
 pub caused-good : (journal : List Step) → IsGood journal → AreCaused first_opening journal
 caused-good journal g = subst (λ (t : Trace). AllByRecursion (λ a. IsCaused first_opening journal a (answer_to t.told a.caller a.call)) t.asked) (sym g.is) (causes-in journal g.settled g.steps g.letters g.least g.outcomes g.flight g.right)
+
+-- and none of them is Again or Lost
+neither : (a : Asked) (made : List Made) (told : Told) (r : Reply) → IsAnswered a made told r → is_again_or_lost r ≡ false
+neither a made told (reply.Value v) h = refl
+neither a made told reply.Absent h = refl
+neither a made told (reply.Done w) h = refl
+neither a made told (reply.Swapped d) h = refl
+neither a made told (reply.Again m) h = absurd h
+neither a made told (reply.Full b) h = refl
+neither a made told (reply.Lost n) h = absurd h
+
+pub none-good : (journal : List Step) → IsGood journal → AllByRecursion (λ t. is_again_or_lost t.reply ≡ false) (run_of first_opening journal).told
+none-good journal g =
+    let P = λ (t : Told). is_again_or_lost t.reply ≡ false in
+    subst (λ (t : Trace). AllByRecursion P t.told) (sym g.is) (all-map (λ (x : Settled). x.told) P g.settled (all-weaker IsSettled (λ x. P x.told) (λ x s. neither x.asked x.made x.told x.told.reply s.answer) g.settled g.right.each))

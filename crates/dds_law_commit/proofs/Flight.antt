@@ -1,4 +1,4 @@
-use Rattle.std.proofs.Common.{◌≡◌, ℕ, ◌+◌, ◌<◌, Bool, true, false, Option, Some, None, List, [], ◌∷◌, ◌++◌, map, length}
+use Rattle.std.proofs.Common.{◌≡◌, ℕ, ◌+◌, ◌<◌, ◌||◌, not, Bool, true, false, Option, Some, None, List, [], ◌∷◌, ◌++◌, map, length}
 use Rattle.std.specs.FinMap.{get}
 use Rattle.std.specs.List.{AllByRecursion}
 use Rattle.dds_base.specs.Number.{Txn}
@@ -18,23 +18,26 @@ use Rattle.dds_script.specs.Opening.{first_leaf, first_opening}
 use Rattle.dds_states.specs.declared.library_state.LibraryState.{LibraryState}
 use Rattle.dds_states.specs.declared.library_state.Phase.{Phase}
 use Rattle.dds_states.specs.declared.library_state.Phase.TheVariants.{Getting}
-use Rattle.dds_world.specs.Trace.{run_of}
-use Rattle.dds_world.specs.World.{World}
-use Rattle.dds_world.specs.declared.step.Step.{Step}
-use Rattle.dds_world.specs.declared.trace.Asked.{Asked}
-use Rattle.dds_world.specs.declared.trace.Caller.{Caller}
-use Rattle.dds_world.specs.declared.trace.Made.{Made}
-use Rattle.dds_world.specs.declared.trace.Told.{Told}
-use Rattle.dds_world.specs.declared.trace.Trace.{Trace}
+use Rattle.dds_cluster.specs.Trace.{run_of}
+use Rattle.dds_cluster.specs.World.{World}
+use Rattle.dds_cluster.specs.declared.step.Step.{Step}
+use Rattle.dds_cluster.specs.declared.trace.Asked.{Asked}
+use Rattle.dds_cluster.specs.declared.trace.Caller.{Caller}
+use Rattle.dds_cluster.specs.declared.trace.Made.{Made}
+use Rattle.dds_cluster.specs.declared.trace.Told.{Told}
+use Rattle.dds_cluster.specs.declared.trace.Trace.{Trace}
+use Rattle.dds_states.specs.Turn.{read_of}
+use Rattle.dds_world.specs.Stands.{is_read_of}
 use Rattle.dds_law_commit.proofs.Journals.{WasFull}
 use Rattle.dds_law_commit.proofs.Rows.{preparing, committing, aborting}
 use Rattle.dds_law_commit.proofs.Scene.{the_brick, the_library, the_txn, the_call, the_pending, first_letter, first_phase, at_rest, to_brick, to_library}
 
 -- The runs of the first opening: calls that were answered, and at most one that is open, whose letter is on its way.
 
--- a call that was answered, with its points
+-- a call that was answered, with its last attempt and its points
 pub record Settled : Type 0 where
   pub asked : Asked
+  pub txn : Txn
   pub made : List Made
   pub told : Told
 
@@ -56,18 +59,21 @@ IsAnswered a made told (reply.Again met) = ⊥
 IsAnswered a made told (reply.Full brick) = made ≡ []
 IsAnswered a made told (reply.Lost name) = ⊥
 
-pub record IsPointOf (a : Asked) (txn : Txn) (m : Made) : Type 0 where
+-- a point of the call, which stands in the history by its answer
+pub record IsPointOf (a : Asked) (txn : Txn) (told : Told) (m : Made) : Type 0 where
   pub caller : m.entry.caller ≡ a.caller
   pub call : m.entry.call ≡ a.call
   pub op : m.entry.op ≡ a.op
   pub of_txn : m.txn ≡ txn
+  pub stands : (not (is_get m.entry.op) || is_read_of m.txn told.read) ≡ true
 
--- the three tell of one call
+-- they tell of one call
 pub record IsSettled (x : Settled) : Type 0 where
   pub caller : x.asked.caller ≡ 0
   pub told_caller : x.told.caller ≡ x.asked.caller
   pub told_call : x.told.call ≡ x.asked.call
-  pub points : AllByRecursion (IsPointOf x.asked x.told.txn) x.made
+  pub told_read : x.told.read ≡ read_of x.txn x.told.reply
+  pub points : AllByRecursion (IsPointOf x.asked x.txn x.told) x.made
   pub answer : IsAnswered x.asked x.made x.told x.told.reply
 
 abbrev pub askeds : List Settled → List Asked
@@ -230,7 +236,7 @@ pub record IsRight (journal : List Step) (xs : List Settled) (n least : ℕ) (f 
   pub each : AllByRecursion IsSettled xs
   pub rising : IsRising xs
   pub below : AllByRecursion (λ x. x.asked.call.0 < least) xs
-  pub numbers : AllByRecursion (λ x. (x.told.txn.library ≡ 64) × (x.told.txn.number < length xs)) xs
+  pub numbers : AllByRecursion (λ x. (x.txn.library ≡ 64) × (x.txn.number < length xs)) xs
   pub legal : IsLegal (entries xs)
   pub fulls : AllByRecursion (λ x. FullIf journal x x.told.reply) xs
   pub open_call : IsFlight xs n least f

@@ -6,12 +6,13 @@ use Rattle.dds_brick_rows.specs.Refusal.{has_no_room}
 use Rattle.dds_letters.specs.declared.letter.Letter.{Letter}
 use Rattle.dds_script.specs.Opening.{first_opening}
 use Rattle.dds_states.specs.declared.brick_state.BrickState.{BrickState}
-use Rattle.dds_world.specs.Causes.{AskedOf, Handles, asked_of, world_at}
-use Rattle.dds_world.specs.Trace.{next, run_of, start, trace_from}
-use Rattle.dds_world.specs.World.{World, brick_at, link}
-use Rattle.dds_world.specs.declared.step.Step.{Step}
-use Rattle.dds_world.specs.declared.trace.Asked.{Asked}
-use Rattle.dds_world.specs.declared.trace.Trace.{Trace}
+use Rattle.dds_world.specs.Causes.{AskedOf, asked_of}
+use Rattle.dds_world.specs.Places.{Handles, world_at}
+use Rattle.dds_cluster.specs.Trace.{next, run_of, start, trace_from}
+use Rattle.dds_cluster.specs.World.{World, brick_at, link}
+use Rattle.dds_cluster.specs.declared.step.Step.{Step}
+use Rattle.dds_cluster.specs.declared.trace.Asked.{Asked}
+use Rattle.dds_cluster.specs.declared.trace.Trace.{Trace}
 
 -- What a journal says of its places still holds when it has one step more.
 

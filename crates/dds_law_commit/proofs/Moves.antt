@@ -21,17 +21,17 @@ use Rattle.dds_states.specs.declared.library_state.Phase.TheVariants.{Getting}
 use Rattle.dds_states.specs.Turn.{BrickTurn}
 use Rattle.dds_states.specs.declared.turn.Point.TheVariants as point
 use Rattle.dds_world.specs.Causes.{AskedOf}
-use Rattle.dds_world.specs.Trace.{next, is_applied, all_kept, run_of}
-use Rattle.dds_world.specs.Turn.{points_made}
-use Rattle.dds_world.specs.World.{World, brick_at, link}
-use Rattle.dds_world.specs.declared.step.Input.TheVariants.{Call}
-use Rattle.dds_world.specs.declared.step.Step.{Step}
-use Rattle.dds_world.specs.declared.step.Step.TheVariants as step
-use Rattle.dds_world.specs.declared.trace.Asked.{Asked}
-use Rattle.dds_world.specs.declared.trace.Caller.{Caller}
-use Rattle.dds_world.specs.declared.trace.Made.{Made}
-use Rattle.dds_world.specs.declared.trace.Told.{Told}
-use Rattle.dds_world.specs.declared.trace.Trace.{Trace}
+use Rattle.dds_cluster.specs.Trace.{next, is_applied, all_kept, run_of}
+use Rattle.dds_cluster.specs.Turn.{points_made}
+use Rattle.dds_cluster.specs.World.{World, brick_at, link}
+use Rattle.dds_cluster.specs.declared.step.Input.TheVariants.{Call}
+use Rattle.dds_cluster.specs.declared.step.Step.{Step}
+use Rattle.dds_cluster.specs.declared.step.Step.TheVariants as step
+use Rattle.dds_cluster.specs.declared.trace.Asked.{Asked}
+use Rattle.dds_cluster.specs.declared.trace.Caller.{Caller}
+use Rattle.dds_cluster.specs.declared.trace.Made.{Made}
+use Rattle.dds_cluster.specs.declared.trace.Told.{Told}
+use Rattle.dds_cluster.specs.declared.trace.Trace.{Trace}
 use Rattle.dds_law_commit.proofs.Lists.{all-weaker}
 use Rattle.dds_law_commit.proofs.Flight.{Settled, askeds, mades, tolds, table, Stage, asked, found, voted, decided, applied, denied, undone, aborted, Flight, idle, moving, trace_in, the_trace, the_caller, the_point, library_in, IsStage, StageFull, IsRight, IsGood}
 use Rattle.dds_law_commit.proofs.Journals.{WasFull, full-later, get-last, run-push}
@@ -202,8 +202,8 @@ update-reply m (op.Swap key expected value) h = refl
 kept-update : (ms : List Made) (m : Made) → is_get m.entry.op ≡ false → is_applied ms m.txn ≡ false → all_kept ms (m ∷ []) ≡ m ∷ []
 kept-update ms m update new = rw (update, new) refl
 
-commit-points : (xs : List Settled) (n : ℕ) (a : Asked) → is_get a.op ≡ false → points_made n (the_pending (length xs) a ∷ []) (letter.Commit (the_txn (length xs))) (point.Applied (the_txn (length xs)) (flag_of (get (table xs) (the_key a.op)) a.op) ∷ []) ≡ the_point xs a n ∷ []
-commit-points xs n a update = rw (same-number (length xs), update-reply (table xs) a.op update) refl
+commit-points : (xs : List Settled) (n : ℕ) (a : Asked) → is_get a.op ≡ false → points_made n (letter.Commit (the_txn (length xs))) (point.Applied (the_pending (length xs) a) (flag_of (get (table xs) (the_key a.op)) a.op) ∷ []) ≡ the_point xs a n ∷ []
+commit-points xs n a update = rw (update-reply (table xs) a.op update) refl
 
 pub good-decided : (journal : List Step) (xs : List Settled) (n k least : ℕ) (os : OutcomeMap) (a : Asked) → run_of first_opening journal ≡ trace_in xs n k least os (moving true decided a) → IsRight journal xs n least (moving true decided a) → IsGood (journal ++ (step.Handle 0 64) ∷ [])
 good-decided journal xs n k least os a run right =
@@ -213,7 +213,7 @@ good-decided journal xs n k least os a run right =
     let later = insert os txn true in
     let new : is_applied (mades xs ++ []) txn ≡ false = rw (append-nil (mades xs)) (not-applied xs (length xs) right.each right.numbers) in
     good journal _ _ run xs (n + 1) (k + 1) least later (moving false (applied n) a)
-    (handle-brick b (the_brick (after (table xs) a.op) [] later) (library_in xs a committing) k n (letter.Commit txn) (letter.Applied txn flag) (point.Applied txn flag ∷ []) (the_caller least (Some a.call)) (askeds xs ++ a ∷ []) (mades xs ++ []) (tolds xs) (row-commit (table xs) os (length xs) a)
+    (handle-brick b (the_brick (after (table xs) a.op) [] later) (library_in xs a committing) k n (letter.Commit txn) (letter.Applied txn flag) (point.Applied (the_pending (length xs) a) flag ∷ []) (the_caller least (Some a.call)) (askeds xs ++ a ∷ []) (mades xs ++ []) (tolds xs) (row-commit (table xs) os (length xs) a)
     ∙ same-trace _ _ (n + 1) _ _ _ _ _ _ _ refl (append-nil _) (ap (λ ms. (mades xs ++ []) ++ all_kept (mades xs ++ []) ms) (commit-points xs n a right.open_call.1) ∙ ap (λ ms. (mades xs ++ []) ++ ms) (kept-update (mades xs ++ []) (the_point xs a n) right.open_call.1 new) ∙ ap (λ ms. ms ++ the_point xs a n ∷ []) (append-nil (mades xs))) (append-nil _))
     (moved journal _ xs n least (moving true decided a) (moving false (applied n) a) right (newest-later xs n least a right.open_call.0, (point-now n a right.open_call.0.before, right.open_call.1)) tt)
 

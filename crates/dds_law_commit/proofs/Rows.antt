@@ -20,14 +20,14 @@ use Rattle.dds_letters.specs.declared.refusal.Denial.{Denial}
 use Rattle.dds_letters.specs.declared.refusal.Denial.TheVariants as denial
 use Rattle.dds_locks.specs.Outcomes.{OutcomeMap, trimmed}
 use Rattle.dds_script.specs.Opening.{first_leaf}
-use Rattle.dds_states.specs.Turn.{BrickTurn, LibraryTurn, sends, letters_out, first_some, when}
+use Rattle.dds_states.specs.Turn.{BrickTurn, LibraryTurn, sends, letters_out, first_some, read_of, when}
 use Rattle.dds_states.specs.declared.brick_state.BrickState.{BrickState}
 use Rattle.dds_states.specs.declared.library_state.LibraryState.{LibraryState}
 use Rattle.dds_states.specs.declared.library_state.Phase.{Phase}
 use Rattle.dds_states.specs.declared.library_state.Phase.TheVariants.{Getting, Preparing, Committing, Aborting}
 use Rattle.dds_states.specs.declared.turn.Point.TheVariants as point
 use Rattle.dds_states.specs.declared.turn.Replied.TheVariants as replied
-use Rattle.dds_world.specs.declared.trace.Asked.{Asked}
+use Rattle.dds_cluster.specs.declared.trace.Asked.{Asked}
 use Rattle.dds_law_commit.proofs.Leaf.{leaf-here}
 use Rattle.dds_law_commit.proofs.Scene.{the_brick, the_library, the_txn, the_call, the_pending, the_bound, the_prepare, first_letter, first_phase}
 
@@ -43,7 +43,7 @@ library_sends l ls = record { state = l; out = letters_out ls }
 -- the call is answered
 abbrev pub library_answers : LibraryState → ℕ → Asked → Reply → LibraryTurn
 library_answers l n a r =
-    record { state = l; out = record { letters = []; points = []; replies = replied.Call (the_txn n) a.caller a.call r ∷ [] } }
+    record { state = l; out = record { letters = []; points = []; replies = replied.Call (read_of (the_txn n) r) a.caller a.call r ∷ [] } }
 
 -- an open call in its first phase, whose letter leaves for the brick
 abbrev pub begun : ℕ → Asked → LibraryTurn
@@ -97,7 +97,7 @@ row-no n k a = rw (same-number n) refl
 -- the update is applied, or was never pending
 abbrev pub apply_turn : Map → OutcomeMap → ℕ → Asked → Bool → BrickTurn
 apply_turn m os n a flag =
-    record { state = the_brick (after m a.op) [] (insert os (the_txn n) true); out = record { letters = (64, letter.Applied (the_txn n) flag) ∷ []; points = point.Applied (the_txn n) flag ∷ []; replies = [] } }
+    record { state = the_brick (after m a.op) [] (insert os (the_txn n) true); out = record { letters = (64, letter.Applied (the_txn n) flag) ∷ []; points = point.Applied (the_pending n a) flag ∷ []; replies = [] } }
 
 pub row-commit : (m : Map) (os : OutcomeMap) (n : ℕ) (a : Asked) → brick_turn (the_brick m (the_pending n a ∷ []) os) 64 (letter.Commit (the_txn n)) ≡ apply_turn m os n a (flag_of (get m (the_key a.op)) a.op)
 row-commit m os n a = rw (same-number n) refl

@@ -3,9 +3,9 @@ use Rattle.std.proofs.lemmas.List.{append-nil, append_assoc}
 use Rattle.std.specs.List.{list_all}
 use Rattle.dds_locks.specs.Outcomes.{OutcomeMap}
 use Rattle.dds_script.specs.Opening.{first_opening}
-use Rattle.dds_world.specs.Trace.{next, is_plain, run_of}
-use Rattle.dds_world.specs.declared.step.Step.{Step}
-use Rattle.dds_world.specs.declared.trace.Asked.{Asked}
+use Rattle.dds_cluster.specs.Trace.{next, is_plain, run_of}
+use Rattle.dds_cluster.specs.declared.step.Step.{Step}
+use Rattle.dds_cluster.specs.declared.trace.Asked.{Asked}
 use Rattle.std.specs.FinMap.{empty}
 use Rattle.dds_law_commit.proofs.Cases.{waits, IsOnly, IsCall, rest-cases, brick-cases, library-cases}
 use Rattle.dds_law_commit.proofs.Flight.{Settled, Stage, asked, found, voted, decided, applied, denied, undone, aborted, Flight, idle, moving, trace_in, IsFlight, FlightFull, IsRight, IsGood}

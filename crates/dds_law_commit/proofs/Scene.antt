@@ -18,9 +18,9 @@ use Rattle.dds_states.specs.declared.library_state.Phase.{Phase}
 use Rattle.dds_states.specs.declared.library_state.Phase.TheVariants.{Getting, Preparing}
 use Rattle.dds_states.specs.declared.library_state.Request.{Request}
 use Rattle.dds_trie.specs.Trie.{LeafMap, put}
-use Rattle.dds_world.specs.World.{World}
-use Rattle.dds_world.specs.declared.step.Message.{Message}
-use Rattle.dds_world.specs.declared.trace.Asked.{Asked}
+use Rattle.dds_cluster.specs.World.{World}
+use Rattle.dds_cluster.specs.declared.step.Message.{Message}
+use Rattle.dds_cluster.specs.declared.trace.Asked.{Asked}
 
 -- The states of the two nodes of the first opening, and where their letter is.
 

@@ -8,16 +8,18 @@ use Rattle.std.proofs.lemmas.List.Elements.{filter-append}
 use Rattle.dds_base.specs.Number.{Txn, same_txn}
 use Rattle.dds_base.specs.Op.{is_get}
 use Rattle.dds_base.specs.declared.number.CallNo.{CallNo}
+use Rattle.dds_base.specs.declared.op.Reply.{Reply}
+use Rattle.dds_base.specs.declared.op.Reply.TheVariants as reply
 use Rattle.dds_locks.specs.Outcomes.{OutcomeMap}
-use Rattle.dds_world.specs.Stands.{answers, answer_to, is_answer, stands_in, placed_history}
-use Rattle.dds_world.specs.declared.step.Step.{Step}
-use Rattle.dds_world.specs.declared.trace.Asked.{Asked}
-use Rattle.dds_world.specs.declared.trace.Made.{Made}
-use Rattle.dds_world.specs.declared.trace.Told.{Told}
+use Rattle.dds_states.specs.Turn.{read_of}
+use Rattle.dds_world.specs.Stands.{answers, answer_to, is_answer, is_read_of, stands_in, placed_history}
+use Rattle.dds_cluster.specs.declared.step.Step.{Step}
+use Rattle.dds_cluster.specs.declared.trace.Asked.{Asked}
+use Rattle.dds_cluster.specs.declared.trace.Made.{Made}
+use Rattle.dds_cluster.specs.declared.trace.Told.{Told}
 use Rattle.dds_law_commit.proofs.Lists.{all-weaker, all-both, all-map, any-none, filter-all, filter-none}
 use Rattle.dds_law_commit.proofs.Flight.{Settled, IsSettled, IsPointOf, IsRising, mades, tolds, Stage, asked, found, voted, decided, applied, denied, undone, aborted, Flight, idle, moving, trace_in, the_point, IsRight}
 use Rattle.dds_law_commit.proofs.Good.{all-mades}
-use Rattle.dds_law_commit.proofs.Rows.{same-number}
 use Rattle.dds_law_commit.proofs.Scene.{the_txn}
 
 -- The calls of such a run stand in one legal history.
@@ -26,29 +28,56 @@ or-true : (b : Bool) → (b || true) ≡ true
 or-true true = refl
 or-true false = refl
 
-same-self : (t : Txn) → same_txn t t ≡ true
-same-self t = rw (same-number t.library, same-number t.number) refl
-
 -- each settled call's points stand in the history
 
-all-answers : (xs : List Settled) → AllByRecursion (λ x. is_answer (tolds xs) x.told.txn ≡ true) xs
-all-answers [] = tt
-all-answers (x ∷ xs) = (rw (same-self x.told.txn) refl, all-weaker (λ y. is_answer (tolds xs) y.told.txn ≡ true) (λ y. (same_txn x.told.txn y.told.txn || is_answer (tolds xs) y.told.txn) ≡ true) (λ y e. rw e (or-true (same_txn x.told.txn y.told.txn))) xs (all-answers xs))
+or-wider : (a b c : Bool) → (a || b) ≡ true → (a || (b || c)) ≡ true
+or-wider true b c h = refl
+or-wider false true c h = refl
+or-wider false false c h = cc
 
-point-stands : (rs : List Told) (t : Txn) (m : Made) → is_answer rs t ≡ true → m.txn ≡ t → stands_in rs m ≡ true
-point-stands rs t m h e = rw (e, h) (or-true (not (is_get m.entry.op)))
+or-behind : (a b c : Bool) → (a || c) ≡ true → (a || (b || c)) ≡ true
+or-behind true b c h = refl
+or-behind false b c h = rw h (or-true b)
+
+abbrev StandBy : List Told → Settled → Type 0
+StandBy rs x = AllByRecursion (λ m. stands_in rs m ≡ true) x.made
+
+own-stand : (rs : List Told) (x : Settled) → IsSettled x → StandBy (x.told ∷ rs) x
+own-stand rs x s = all-weaker (IsPointOf x.asked x.txn x.told) (λ m. stands_in (x.told ∷ rs) m ≡ true) (λ m p. or-wider (not (is_get m.entry.op)) (is_read_of m.txn x.told.read) (is_answer rs m.txn) p.stands) x.made s.points
+
+stand-behind : (r : Told) (rs : List Told) (x : Settled) → StandBy rs x → StandBy (r ∷ rs) x
+stand-behind r rs x h = all-weaker (λ m. stands_in rs m ≡ true) (λ m. stands_in (r ∷ rs) m ≡ true) (λ m e. or-behind (not (is_get m.entry.op)) (is_read_of m.txn r.read) (is_answer rs m.txn) e) x.made h
+
+all-stand : (xs : List Settled) → AllByRecursion IsSettled xs → AllByRecursion (StandBy (tolds xs)) xs
+all-stand [] h = tt
+all-stand (x ∷ xs) h = (own-stand (tolds xs) x h.0, all-weaker (StandBy (tolds xs)) (StandBy (x.told ∷ tolds xs)) (λ y k. stand-behind x.told (tolds xs) y k) xs (all-stand xs h.1))
 
 settled-stand : (xs : List Settled) → AllByRecursion IsSettled xs → filter (stands_in (tolds xs)) (mades xs) ≡ mades xs
-settled-stand xs h = filter-all (stands_in (tolds xs)) (mades xs) (all-mades (λ m. stands_in (tolds xs) m ≡ true) xs (all-weaker (λ x. IsSettled x × (is_answer (tolds xs) x.told.txn ≡ true)) (λ x. AllByRecursion (λ m. stands_in (tolds xs) m ≡ true) x.made) (λ x k. all-weaker (IsPointOf x.asked x.told.txn) (λ m. stands_in (tolds xs) m ≡ true) (λ m p. point-stands (tolds xs) x.told.txn m k.1 p.of_txn) x.made k.0.points) xs (all-both IsSettled (λ x. is_answer (tolds xs) x.told.txn ≡ true) xs h (all-answers xs))))
+settled-stand xs h = filter-all (stands_in (tolds xs)) (mades xs) (all-mades (λ m. stands_in (tolds xs) m ≡ true) xs (all-stand xs h))
 
 -- the open call's attempt has answered nothing
 
 other-number : (n : ℕ) (t : Txn) → t.number < n → same_txn t (the_txn n) ≡ false
 other-number n t h = let e : eqb t.number n ≡ false = grind (arith, nat_tests, h) in rw e (and-false (eqb t.library 64))
 
-unanswered : (xs : List Settled) (n : ℕ) → AllByRecursion (λ x. (x.told.txn.library ≡ 64) × (x.told.txn.number < n)) xs → is_answer (tolds xs) (the_txn n) ≡ false
-unanswered xs n numbers =
-    any-none (λ r. same_txn r.txn (the_txn n)) (tolds xs) (all-map (λ (x : Settled). x.told) (λ r. same_txn r.txn (the_txn n) ≡ false) xs (all-weaker (λ x. (x.told.txn.library ≡ 64) × (x.told.txn.number < n)) (λ x. same_txn x.told.txn (the_txn n) ≡ false) (λ x k. other-number n x.told.txn k.1) xs numbers))
+unread : (x t : Txn) (r : Reply) → same_txn x t ≡ false → is_read_of t (read_of x r) ≡ false
+unread x t (reply.Value v) h = h
+unread x t reply.Absent h = h
+unread x t (reply.Done w) h = refl
+unread x t (reply.Swapped d) h = refl
+unread x t (reply.Again m) h = refl
+unread x t (reply.Full b) h = refl
+unread x t (reply.Lost n) h = refl
+
+unread-settled : (n : ℕ) (x : Settled) → IsSettled x → x.txn.number < n → is_read_of (the_txn n) x.told.read ≡ false
+unread-settled n x s h = ap (is_read_of (the_txn n)) s.told_read ∙ unread x.txn (the_txn n) x.told.reply (other-number n x.txn h)
+
+abbrev IsBelow : ℕ → Settled → Type 0
+IsBelow n x = (x.txn.library ≡ 64) × (x.txn.number < n)
+
+unanswered : (xs : List Settled) (n : ℕ) → AllByRecursion IsSettled xs → AllByRecursion (IsBelow n) xs → is_answer (tolds xs) (the_txn n) ≡ false
+unanswered xs n each numbers =
+    any-none (λ r. is_read_of (the_txn n) r.read) (tolds xs) (all-map (λ (x : Settled). x.told) (λ r. is_read_of (the_txn n) r.read ≡ false) xs (all-weaker (λ x. IsSettled x × IsBelow n x) (λ x. is_read_of (the_txn n) x.told.read ≡ false) (λ x k. unread-settled n x k.0 k.1.1) xs (all-both IsSettled (IsBelow n) xs each numbers)))
 
 -- the entries of the history behind those of the settled calls
 abbrev pub stage_extra : List Settled → Asked → Stage → List Made
@@ -71,7 +100,7 @@ placed-front xs more h = filter-append (stands_in (tolds xs)) (mades xs) more �
 pub placed : (journal : List Step) (xs : List Settled) (n k least : ℕ) (os : OutcomeMap) (f : Flight) → IsRight journal xs n least f → placed_history (trace_in xs n k least os f) ≡ mades xs ++ extra xs f
 placed journal xs n k least os idle r = placed-front xs [] r.each
 placed journal xs n k least os (moving posted asked a) r = placed-front xs [] r.each
-placed journal xs n k least os (moving posted (found p) a) r = placed-front xs (the_point xs a p ∷ []) r.each ∙ ap (λ t. mades xs ++ t) (let g : is_get a.op ≡ true = r.open_call.1.1 in rw (g, unanswered xs (length xs) r.numbers) refl)
+placed journal xs n k least os (moving posted (found p) a) r = placed-front xs (the_point xs a p ∷ []) r.each ∙ ap (λ t. mades xs ++ t) (let g : is_get a.op ≡ true = r.open_call.1.1 in rw (g, unanswered xs (length xs) r.each r.numbers) refl)
 placed journal xs n k least os (moving posted voted a) r = placed-front xs [] r.each
 placed journal xs n k least os (moving posted decided a) r = placed-front xs [] r.each
 placed journal xs n k least os (moving posted (applied p) a) r = placed-front xs (the_point xs a p ∷ []) r.each ∙ ap (λ t. mades xs ++ t) (let g : is_get a.op ≡ false = r.open_call.1.1 in rw g refl)
@@ -99,18 +128,18 @@ other-call caller caller2 call call2 ne =
     let b : eqb call.0 call2.0 ≡ false = grind (arith, nat_tests, ne) in
     rw b (and-false (eqb caller caller2))
 
-point-belongs : (a : Asked) (t : Txn) (m : Made) → IsPointOf a t m → belongs a m ≡ true
-point-belongs a t m p = same-call m.entry.caller a.caller m.entry.call a.call p.caller p.call
+point-belongs : (a : Asked) (t : Txn) (told : Told) (m : Made) → IsPointOf a t told m → belongs a m ≡ true
+point-belongs a t told m p = same-call m.entry.caller a.caller m.entry.call a.call p.caller p.call
 
-point-apart : (a b : Asked) (t : Txn) (m : Made) → (b.call.0 ≡ a.call.0 → ⊥) → IsPointOf b t m → belongs a m ≡ false
-point-apart a b t m ne p = other-call m.entry.caller a.caller m.entry.call a.call (λ e. ne (sym (ap (λ (c : CallNo). c.0) p.call) ∙ e))
+point-apart : (a b : Asked) (t : Txn) (told : Told) (m : Made) → (b.call.0 ≡ a.call.0 → ⊥) → IsPointOf b t told m → belongs a m ≡ false
+point-apart a b t told m ne p = other-call m.entry.caller a.caller m.entry.call a.call (λ e. ne (sym (ap (λ (c : CallNo). c.0) p.call) ∙ e))
 
 -- points of one call are of no other
 own-points : (x : Settled) → IsSettled x → filter (belongs x.asked) x.made ≡ x.made
-own-points x s = filter-all (belongs x.asked) x.made (all-weaker (IsPointOf x.asked x.told.txn) (λ m. belongs x.asked m ≡ true) (λ m p. point-belongs x.asked x.told.txn m p) x.made s.points)
+own-points x s = filter-all (belongs x.asked) x.made (all-weaker (IsPointOf x.asked x.txn x.told) (λ m. belongs x.asked m ≡ true) (λ m p. point-belongs x.asked x.txn x.told m p) x.made s.points)
 
 apart-points : (a : Asked) (y : Settled) → IsSettled y → (y.asked.call.0 ≡ a.call.0 → ⊥) → AllByRecursion (λ m. belongs a m ≡ false) y.made
-apart-points a y s ne = all-weaker (IsPointOf y.asked y.told.txn) (λ m. belongs a m ≡ false) (λ m p. point-apart a y.asked y.told.txn m ne p) y.made s.points
+apart-points a y s ne = all-weaker (IsPointOf y.asked y.txn y.told) (λ m. belongs a m ≡ false) (λ m p. point-apart a y.asked y.txn y.told m ne p) y.made s.points
 
 pub no-points : (a : Asked) (ys : List Settled) → AllByRecursion IsSettled ys → AllByRecursion (λ y. y.asked.call.0 ≡ a.call.0 → ⊥) ys → filter (belongs a) (mades ys) ≡ []
 no-points a ys each apart = filter-none (belongs a) (mades ys) (all-mades (λ m. belongs a m ≡ false) ys (all-weaker (λ y. IsSettled y × (y.asked.call.0 ≡ a.call.0 → ⊥)) (λ y. AllByRecursion (λ m. belongs a m ≡ false) y.made) (λ y h. apart-points a y h.0 h.1) ys (all-both IsSettled (λ y. y.asked.call.0 ≡ a.call.0 → ⊥) ys each apart)))

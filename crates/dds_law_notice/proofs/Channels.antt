@@ -7,8 +7,8 @@ use Rattle.dds_base.specs.NodeSet.{has_node, no_nodes, with_node}
 use Rattle.dds_base.specs.declared.node_set.NodeSet.{NodeSet}
 use Rattle.dds_states.specs.declared.brick_state.BrickState.{BrickState}
 use Rattle.dds_states.specs.declared.library_state.LibraryState.{LibraryState}
-use Rattle.dds_world.specs.World.{World}
-use Rattle.dds_world.specs.declared.step.Message.{Message}
+use Rattle.dds_cluster.specs.World.{World}
+use Rattle.dds_cluster.specs.declared.step.Message.{Message}
 use Rattle.dds_law_notice.proofs.Places.{Silent, silent-append, EndsSo}
 use Rattle.dds_law_notice.proofs.Turns.{is_notice, not-true}
 

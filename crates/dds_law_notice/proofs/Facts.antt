@@ -7,12 +7,12 @@ use Rattle.dds_base.specs.declared.number.NodeNo.{NodeNo}
 use Rattle.dds_letters.specs.declared.letter.Letter.{Letter}
 use Rattle.dds_letters.specs.declared.letter.Letter.TheVariants as letter
 use Rattle.dds_script.specs.Opening.{OpeningOf}
-use Rattle.dds_walk.proofs.Sizes.{IsSized}
+use Rattle.dds_cluster.proofs.Sizes.{IsSized}
 use Rattle.dds_world.specs.Reached.{HasStopped, Knows, NoticeIsLast, Travels}
-use Rattle.dds_world.specs.Trace.{run_of}
-use Rattle.dds_world.specs.World.{World, is_node, link, place}
-use Rattle.dds_world.specs.declared.step.Message.{Message}
-use Rattle.dds_world.specs.declared.step.Step.{Step}
+use Rattle.dds_cluster.specs.Trace.{run_of}
+use Rattle.dds_cluster.specs.World.{World, is_node, link, place}
+use Rattle.dds_cluster.specs.declared.step.Message.{Message}
+use Rattle.dds_cluster.specs.declared.step.Step.{Step}
 use Rattle.dds_law_notice.proofs.Channels.{PairOk, Status, box, brick_status, channel, lane, node_of, place_in, sent, status}
 use Rattle.dds_law_notice.proofs.Inputs.{brick-found, library-found}
 use Rattle.dds_law_notice.proofs.Linked.{IsLinked, place-node, row-length}

@@ -2,8 +2,8 @@ use Rattle.std.proofs.Common.{◌≡◌, ℕ, ◌+◌, ◌<◌, ◌≤◌, inl, 
 use Rattle.std.proofs.lemmas.Bool.Decides.{nat_tests}
 use Rattle.dds_base.specs.NodeSet.{has_node, with_node}
 use Rattle.dds_base.specs.declared.node_set.NodeSet.{NodeSet}
-use Rattle.dds_world.specs.World.{World}
-use Rattle.dds_world.specs.declared.step.Message.{Message}
+use Rattle.dds_cluster.specs.World.{World}
+use Rattle.dds_cluster.specs.declared.step.Message.{Message}
 use Rattle.dds_law_notice.proofs.Channels.{node_of, box, lane, sent, channel, Status, status, PairOk, pair-pop, pair-over, pair-nothing, has-with}
 use Rattle.dds_law_notice.proofs.Linked.{IsLinked, Turned, turned-pair, same-or-not, node-apart, node-below}
 use Rattle.dds_law_notice.proofs.Places.{Silent}

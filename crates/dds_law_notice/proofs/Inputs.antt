@@ -12,11 +12,11 @@ use Rattle.dds_core.specs.LibraryTurn.{library_input, input_turn, keeps, new_req
 use Rattle.dds_call_rows.specs.Library.{begin}
 use Rattle.dds_states.specs.declared.brick_state.BrickState.{BrickState}
 use Rattle.dds_states.specs.declared.library_state.LibraryState.{LibraryState}
-use Rattle.dds_walk.proofs.Sizes.{IsSized}
-use Rattle.dds_world.specs.Turn.{call_at, order_at, input_at}
-use Rattle.dds_world.specs.World.{World, brick_at, library_at, numbered}
-use Rattle.dds_world.specs.declared.step.Input.{Input}
-use Rattle.dds_world.specs.declared.step.Input.TheVariants as input
+use Rattle.dds_cluster.proofs.Sizes.{IsSized}
+use Rattle.dds_cluster.specs.Turn.{call_at, order_at, input_at}
+use Rattle.dds_cluster.specs.World.{World, brick_at, library_at, numbered}
+use Rattle.dds_cluster.specs.declared.step.Input.{Input}
+use Rattle.dds_cluster.specs.declared.step.Input.TheVariants as input
 use Rattle.dds_law_notice.proofs.Channels.{Status, brick_status, library_status, status}
 use Rattle.dds_law_notice.proofs.Handled.{input-linked}
 use Rattle.dds_law_notice.proofs.LibraryRows.{input-tells}

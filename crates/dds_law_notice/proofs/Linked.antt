@@ -4,9 +4,9 @@ use Rattle.std.proofs.lemmas.List.{append_assoc}
 use Rattle.std.specs.Prelude.{slice_index_or}
 use Rattle.std.proofs.lemmas.Bool.Decides.{nat_tests}
 use Rattle.dds_base.specs.NodeSet.{has_node}
-use Rattle.dds_walk.proofs.Sizes.{AreRows, IsSized}
-use Rattle.dds_world.specs.World.{World}
-use Rattle.dds_world.specs.declared.step.Message.{Message}
+use Rattle.dds_cluster.proofs.Sizes.{AreRows, IsSized}
+use Rattle.dds_cluster.specs.World.{World}
+use Rattle.dds_cluster.specs.declared.step.Message.{Message}
 use Rattle.dds_law_notice.proofs.Channels.{place_in, node_of, box, lane, sent, channel, Status, status, PairOk, pair-more}
 use Rattle.dds_law_notice.proofs.Places.{Silent, silent-filter}
 

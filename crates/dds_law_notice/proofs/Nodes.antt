@@ -7,10 +7,10 @@ use Rattle.dds_letters.specs.declared.letter.Letter.{Letter}
 use Rattle.dds_states.specs.Turn.{BrickTurn, LibraryTurn}
 use Rattle.dds_states.specs.declared.brick_state.BrickState.{BrickState}
 use Rattle.dds_states.specs.declared.library_state.LibraryState.{LibraryState}
-use Rattle.dds_walk.proofs.Sizes.{IsSized}
-use Rattle.dds_world.specs.Turn.{brick_does, library_does}
-use Rattle.dds_world.specs.World.{World, brick_at, library_at, is_node, numbered}
-use Rattle.dds_world.specs.declared.trace.Made.{Made}
+use Rattle.dds_cluster.proofs.Sizes.{IsSized}
+use Rattle.dds_cluster.specs.Turn.{brick_does, library_does}
+use Rattle.dds_cluster.specs.World.{World, brick_at, library_at, is_node, numbered}
+use Rattle.dds_cluster.specs.declared.trace.Made.{Made}
 use Rattle.dds_law_notice.proofs.Channels.{place_in, brick_status, library_status, status}
 use Rattle.dds_law_notice.proofs.Linked.{Turned}
 use Rattle.dds_law_notice.proofs.Places.{Silent}

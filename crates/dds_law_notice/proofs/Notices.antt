@@ -5,8 +5,8 @@ use Rattle.std.specs.List.{AllByRecursion}
 use Rattle.std.proofs.lemmas.Bool.Decides.{nat_tests}
 use Rattle.dds_letters.specs.declared.letter.Letter.TheVariants as letter
 use Rattle.dds_states.specs.Turn.{numbers_from, to_each, without}
-use Rattle.dds_world.specs.World.{numbered}
-use Rattle.dds_world.specs.declared.step.Message.{Message}
+use Rattle.dds_cluster.specs.World.{numbered}
+use Rattle.dds_cluster.specs.declared.step.Message.{Message}
 use Rattle.dds_law_notice.proofs.Channels.{place_in, sent}
 use Rattle.dds_law_notice.proofs.Turns.{is_notice}
 

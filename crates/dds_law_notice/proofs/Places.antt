@@ -1,7 +1,7 @@
 use Rattle.std.proofs.Common.{◌≡◌, Bool, true, false, List, [], ◌∷◌, ◌++◌}
 use Rattle.std.specs.Prelude.{filter, if◌then◌else◌}
 use Rattle.std.specs.List.{AllByRecursion}
-use Rattle.dds_world.specs.declared.step.Message.{Message}
+use Rattle.dds_cluster.specs.declared.step.Message.{Message}
 use Rattle.dds_law_notice.proofs.Turns.{is_notice}
 
 -- Lists of messages.

@@ -3,9 +3,9 @@ use Rattle.std.proofs.lemmas.List.{append_assoc, get_or-set_same, get_or-set_oth
 use Rattle.std.specs.Prelude.{slice_index_or, slice_set, if◌then◌else◌}
 use Rattle.std.proofs.lemmas.Bool.Decides.{nat_tests}
 use Rattle.dds_base.specs.NodeSet.{has_node}
-use Rattle.dds_walk.proofs.Sizes.{IsSized}
-use Rattle.dds_world.specs.World.{World}
-use Rattle.dds_world.specs.declared.step.Message.{Message}
+use Rattle.dds_cluster.proofs.Sizes.{IsSized}
+use Rattle.dds_cluster.specs.World.{World}
+use Rattle.dds_cluster.specs.declared.step.Message.{Message}
 use Rattle.dds_law_notice.proofs.Channels.{place_in, node_of, box, lane, sent, channel, status, PairOk}
 use Rattle.dds_law_notice.proofs.Handled.{Popped}
 use Rattle.dds_law_notice.proofs.Linked.{IsLinked, row-length, same-or-not}

@@ -4,14 +4,14 @@ use Rattle.std.specs.Prelude.{slice_get, slice_index_or, replicate, if◌then◌
 use Rattle.dds_base.specs.NodeSet.{has_node, no_nodes}
 use Rattle.dds_base.specs.declared.leaf.Leaf.{Leaf}
 use Rattle.dds_script.specs.Opening.{OpeningOf}
-use Rattle.dds_walk.proofs.Sizes.{IsSized, sized-next, sized-start}
-use Rattle.dds_world.specs.Trace.{adds, has_first, is_possible, is_run_from, next, start, trace_from}
-use Rattle.dds_world.specs.Turn.{turn}
-use Rattle.dds_world.specs.World.{is_node, link, new_bricks, new_libraries, outbox}
-use Rattle.dds_world.specs.declared.step.Message.{Message}
-use Rattle.dds_world.specs.declared.step.Step.{Step}
-use Rattle.dds_world.specs.declared.step.Step.TheVariants as step
-use Rattle.dds_world.specs.declared.trace.Trace.{Trace}
+use Rattle.dds_cluster.proofs.Sizes.{IsSized, sized-next, sized-start}
+use Rattle.dds_cluster.specs.Trace.{adds, has_first, is_possible, is_run_from, next, start, trace_from}
+use Rattle.dds_cluster.specs.Turn.{turn}
+use Rattle.dds_cluster.specs.World.{is_node, link, new_bricks, new_libraries, outbox}
+use Rattle.dds_cluster.specs.declared.step.Message.{Message}
+use Rattle.dds_cluster.specs.declared.step.Step.{Step}
+use Rattle.dds_cluster.specs.declared.step.Step.TheVariants as step
+use Rattle.dds_cluster.specs.declared.trace.Trace.{Trace}
 use Rattle.dds_law_notice.proofs.Channels.{Status, brick_status, library_status, status, PairOk, channel, node_of, sent}
 use Rattle.dds_law_notice.proofs.Inputs.{input-keeps}
 use Rattle.dds_law_notice.proofs.Linked.{IsLinked}

@@ -11,11 +11,11 @@ use Rattle.dds_base.specs.declared.number.NodeNo.{NodeNo}
 use Rattle.dds_states.specs.Turn.{numbers_from, without}
 use Rattle.dds_states.specs.declared.brick_state.BrickState.{BrickState}
 use Rattle.dds_states.specs.declared.library_state.LibraryState.{LibraryState}
-use Rattle.dds_walk.proofs.Sizes.{IsSized}
-use Rattle.dds_world.specs.Trace.{is_live, is_live_brick, is_live_library}
-use Rattle.dds_world.specs.Turn.{stop_at, stop_library, tells}
-use Rattle.dds_world.specs.World.{World, all_nodes, brick_at, emptied, library_at, place}
-use Rattle.dds_world.specs.declared.step.Message.{Message}
+use Rattle.dds_cluster.proofs.Sizes.{IsSized}
+use Rattle.dds_cluster.specs.Trace.{is_live, is_live_brick, is_live_library}
+use Rattle.dds_cluster.specs.Turn.{stop_at, stop_library, tells}
+use Rattle.dds_cluster.specs.World.{World, all_nodes, brick_at, emptied, library_at, place}
+use Rattle.dds_cluster.specs.declared.step.Message.{Message}
 use Rattle.dds_law_notice.proofs.Channels.{place_in, node_of, box, lane, sent, channel, Status, brick_status, library_status, status, PairOk}
 use Rattle.dds_law_notice.proofs.Inputs.{brick-found, library-found}
 use Rattle.dds_law_notice.proofs.Linked.{IsLinked, same-or-not}

@@ -9,11 +9,11 @@ use Rattle.dds_core.specs.LibraryTurn.{library_turn}
 use Rattle.dds_states.specs.Turn.{BrickTurn, LibraryTurn}
 use Rattle.dds_states.specs.declared.brick_state.BrickState.{BrickState}
 use Rattle.dds_states.specs.declared.library_state.LibraryState.{LibraryState}
-use Rattle.dds_walk.proofs.Sizes.{AreRows, IsSized}
-use Rattle.dds_world.specs.Turn.{brick_does, library_does, brick_handles, handle, points_made, post, WorldTurn, at_library, at_node}
-use Rattle.dds_world.specs.World.{World, is_node, link, numbered, outbox, place}
-use Rattle.dds_world.specs.declared.step.Message.{Message}
-use Rattle.dds_world.specs.declared.trace.Made.{Made}
+use Rattle.dds_cluster.proofs.Sizes.{AreRows, IsSized}
+use Rattle.dds_cluster.specs.Turn.{brick_does, library_does, brick_handles, handle, points_made, post, WorldTurn, at_library, at_node}
+use Rattle.dds_cluster.specs.World.{World, is_node, link, numbered, outbox, place}
+use Rattle.dds_cluster.specs.declared.step.Message.{Message}
+use Rattle.dds_cluster.specs.declared.trace.Made.{Made}
 use Rattle.dds_law_notice.proofs.Channels.{place_in, node_of, lane, Status, brick_status, library_status, status}
 use Rattle.dds_law_notice.proofs.Handled.{Popped, letter-linked, notice-linked}
 use Rattle.dds_law_notice.proofs.LibraryRows.{LibraryTold, live as told_live, stopped as told_stopped, library-told}

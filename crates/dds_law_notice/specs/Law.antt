@@ -3,8 +3,8 @@ use Rattle.std.specs.Prelude.{◌≡◌, true, List}
 use Rattle.dds_script.specs.Opening.{OpeningOf, ranges_of}
 use Rattle.dds_script.specs.Ranges.{IsRanges}
 use Rattle.dds_world.specs.Reached.{NoticeIsLast}
-use Rattle.dds_world.specs.Trace.{is_run}
-use Rattle.dds_world.specs.declared.step.Step.{Step}
+use Rattle.dds_cluster.specs.Trace.{is_run}
+use Rattle.dds_cluster.specs.declared.step.Step.{Step}
 
 -- of each run of each opening whose numbers of nodes are in range
 abbrev pub NoticesAreLast : Type 0

@@ -24,12 +24,12 @@ use Rattle.dds_states.specs.declared.turn.Replied.{Replied}
 use Rattle.dds_states.specs.declared.turn.Replied.TheVariants as replied
 use Rattle.dds_world.specs.Refusals.{LeaseWasRefused, TookBefore}
 use Rattle.dds_world.specs.Refusals.OrderWasRefused.{by_itself, by_member}
-use Rattle.dds_world.specs.Trace.{run_of}
-use Rattle.dds_world.specs.World.{World, brick_at, link}
-use Rattle.dds_world.specs.declared.step.Input.TheVariants as input
-use Rattle.dds_world.specs.declared.step.Message.{Message}
-use Rattle.dds_world.specs.declared.step.Step.{Step}
-use Rattle.dds_world.specs.declared.step.Step.TheVariants as step
+use Rattle.dds_cluster.specs.Trace.{run_of}
+use Rattle.dds_cluster.specs.World.{World, brick_at, link}
+use Rattle.dds_cluster.specs.declared.step.Input.TheVariants as input
+use Rattle.dds_cluster.specs.declared.step.Message.{Message}
+use Rattle.dds_cluster.specs.declared.step.Step.{Step}
+use Rattle.dds_cluster.specs.declared.step.Step.TheVariants as step
 use Rattle.dds_law_notice.proofs.Channels.{node_of, place_in}
 use Rattle.dds_law_notice.proofs.OrderRows.{InputMet, order-tells}
 use Rattle.dds_law_notice.proofs.Rows.{IsAnswer, MetAt, RefusesNot, RefusesNothing, Says, live-says}

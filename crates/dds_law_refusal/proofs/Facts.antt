@@ -13,10 +13,10 @@ use Rattle.dds_states.specs.declared.library_state.Phase.TheVariants as phase
 use Rattle.std.specs.Prelude.{slice_get}
 use Rattle.dds_world.specs.Reached.{Travels}
 use Rattle.dds_world.specs.Refusals.{LeaseWasRefused, RefusalsWereTrue}
-use Rattle.dds_world.specs.Trace.{run_of}
-use Rattle.dds_world.specs.World.{library_at, place}
-use Rattle.dds_world.specs.declared.step.Message.{Message}
-use Rattle.dds_world.specs.declared.step.Step.{Step}
+use Rattle.dds_cluster.specs.Trace.{run_of}
+use Rattle.dds_cluster.specs.World.{library_at, place}
+use Rattle.dds_cluster.specs.declared.step.Message.{Message}
+use Rattle.dds_cluster.specs.declared.step.Step.{Step}
 use Rattle.dds_law_notice.proofs.Channels.{channel, node_of, place_in}
 use Rattle.dds_law_notice.proofs.Facts.{travels-in}
 use Rattle.dds_law_notice.proofs.Taken.{node-at-place, place-below}

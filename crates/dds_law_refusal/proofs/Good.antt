@@ -17,12 +17,12 @@ use Rattle.dds_states.specs.declared.turn.Replied.{Replied}
 use Rattle.dds_states.specs.declared.turn.Replied.TheVariants as replied
 use Rattle.dds_world.specs.Causes.{world_at}
 use Rattle.dds_world.specs.Refusals.{OrderWasRefused}
-use Rattle.dds_world.specs.Trace.{run_of}
-use Rattle.dds_world.specs.Turn.{brick_does, library_does}
-use Rattle.dds_world.specs.World.{World, brick_at, library_at, numbered}
-use Rattle.dds_world.specs.declared.step.Message.{Message}
-use Rattle.dds_world.specs.declared.step.Step.{Step}
-use Rattle.dds_world.specs.declared.trace.Made.{Made}
+use Rattle.dds_cluster.specs.Trace.{run_of}
+use Rattle.dds_cluster.specs.Turn.{brick_does, library_does}
+use Rattle.dds_cluster.specs.World.{World, brick_at, library_at, numbered}
+use Rattle.dds_cluster.specs.declared.step.Message.{Message}
+use Rattle.dds_cluster.specs.declared.step.Step.{Step}
+use Rattle.dds_cluster.specs.declared.trace.Made.{Made}
 use Rattle.dds_law_notice.proofs.Channels.{channel, node_of, place_in, sent}
 use Rattle.dds_law_notice.proofs.Linked.{IsLinked, same-or-not}
 use Rattle.dds_law_notice.proofs.Nodes.{brick-here, get-set-other, get-set-same, library-here}

@@ -19,8 +19,8 @@ use Rattle.dds_states.specs.declared.library_state.OpenCall.{OpenCall}
 use Rattle.dds_states.specs.declared.turn.Replied.{Replied}
 use Rattle.dds_states.specs.declared.turn.Replied.TheVariants as replied
 use Rattle.dds_world.specs.Refusals.CallWasRefused.{of_get}
-use Rattle.dds_world.specs.World.{World, library_at}
-use Rattle.dds_world.specs.declared.step.Step.{Step}
+use Rattle.dds_cluster.specs.World.{World, library_at}
+use Rattle.dds_cluster.specs.declared.step.Step.{Step}
 use Rattle.dds_law_notice.proofs.Turns.{Said, said}
 use Rattle.dds_law_notice.proofs.Turns.Said.{begins, answers, votes, refuses, stops, nothing}
 use Rattle.dds_law_refusal.proofs.CallRows.{LetterOk}

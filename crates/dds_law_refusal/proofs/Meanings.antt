@@ -26,9 +26,9 @@ use Rattle.dds_world.specs.Causes.{Handles, world_at}
 use Rattle.dds_world.specs.Refusals.{CallWasRefused, GetWasRefused, LeaseWasRefused, OrderWasRefused, TookBefore, UpdateWasDenied, WasMet}
 use Rattle.dds_world.specs.Refusals.CallWasRefused.{of_get, of_update}
 use Rattle.dds_world.specs.Refusals.OrderWasRefused.{by_itself, by_member}
-use Rattle.dds_world.specs.Trace.{run_of}
-use Rattle.dds_world.specs.World.{World, brick_at, library_at, link}
-use Rattle.dds_world.specs.declared.step.Step.{Step}
+use Rattle.dds_cluster.specs.Trace.{run_of}
+use Rattle.dds_cluster.specs.World.{World, brick_at, library_at, link}
+use Rattle.dds_cluster.specs.declared.step.Step.{Step}
 use Rattle.dds_law_notice.proofs.Channels.{node_of, place_in}
 use Rattle.dds_law_notice.proofs.Facts.{front-has}
 use Rattle.dds_law_notice.proofs.Turns.{Said, said}

@@ -4,8 +4,8 @@ use Rattle.std.specs.List.{AllByRecursion}
 use Rattle.std.specs.Prelude.{if◌then◌else◌}
 use Rattle.dds_base.specs.declared.number.NodeNo.{NodeNo}
 use Rattle.dds_letters.specs.declared.letter.Letter.{Letter}
-use Rattle.dds_world.specs.World.{World, numbered}
-use Rattle.dds_world.specs.declared.step.Message.{Message}
+use Rattle.dds_cluster.specs.World.{World, numbered}
+use Rattle.dds_cluster.specs.declared.step.Message.{Message}
 use Rattle.dds_law_notice.proofs.Channels.{Status, box, channel, lane, place_in, sent}
 use Rattle.dds_law_notice.proofs.Handled.{Popped}
 use Rattle.dds_law_notice.proofs.Linked.{Turned, same-or-not, sent-more}

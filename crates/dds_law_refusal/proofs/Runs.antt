@@ -13,11 +13,11 @@ use Rattle.dds_states.specs.declared.brick_state.BrickState.{BrickState}
 use Rattle.dds_states.specs.declared.library_state.LibraryState.{LibraryState}
 use Rattle.dds_states.specs.declared.turn.Replied.TheVariants as replied
 use Rattle.dds_world.specs.Refusals.{OrderWasRefused}
-use Rattle.dds_world.specs.Trace.{is_possible, is_run_from, next, replies_in, run_of, start, trace_from}
-use Rattle.dds_world.specs.Turn.{turn}
-use Rattle.dds_world.specs.World.{library_at, new_bricks, new_libraries}
-use Rattle.dds_world.specs.declared.step.Step.{Step}
-use Rattle.dds_world.specs.declared.trace.Trace.{Trace}
+use Rattle.dds_cluster.specs.Trace.{is_possible, is_run_from, next, replies_in, run_of, start, trace_from}
+use Rattle.dds_cluster.specs.Turn.{turn}
+use Rattle.dds_cluster.specs.World.{library_at, new_bricks, new_libraries}
+use Rattle.dds_cluster.specs.declared.step.Step.{Step}
+use Rattle.dds_cluster.specs.declared.trace.Trace.{Trace}
 use Rattle.dds_law_notice.proofs.Facts.{front-has}
 use Rattle.dds_law_notice.proofs.Inputs.{brick-found, library-found}
 use Rattle.dds_law_notice.proofs.Runs.{both-left, both-right, next-is, nothing-sent, start-linked}

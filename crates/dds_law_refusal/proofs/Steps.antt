@@ -19,14 +19,14 @@ use Rattle.dds_script.specs.Opening.{OpeningOf}
 use Rattle.dds_states.specs.Turn.{to_each}
 use Rattle.dds_states.specs.declared.brick_state.BrickState.{BrickState}
 use Rattle.dds_states.specs.declared.library_state.LibraryState.{LibraryState}
-use Rattle.dds_walk.proofs.Sizes.{IsSized}
-use Rattle.dds_world.specs.Trace.{has_first, is_live_brick, is_live_library, is_possible, may_order, run_of}
-use Rattle.dds_world.specs.Turn.{WorldTurn, at_library, at_node, brick_does, call_at, handle, library_does, no_step, order_at, points_made, post, stop_at, stop_library, turn}
-use Rattle.dds_world.specs.World.{World, brick_at, emptied, is_node, library_at, link, numbered, outbox, place}
-use Rattle.dds_world.specs.declared.step.Input.TheVariants as input
-use Rattle.dds_world.specs.declared.step.Message.{Message}
-use Rattle.dds_world.specs.declared.step.Step.{Step}
-use Rattle.dds_world.specs.declared.step.Step.TheVariants as step
+use Rattle.dds_cluster.proofs.Sizes.{IsSized}
+use Rattle.dds_cluster.specs.Trace.{has_first, is_live_brick, is_live_library, is_possible, may_order, run_of}
+use Rattle.dds_cluster.specs.Turn.{WorldTurn, at_library, at_node, brick_does, call_at, handle, library_does, no_step, order_at, points_made, post, stop_at, stop_library, turn}
+use Rattle.dds_cluster.specs.World.{World, brick_at, emptied, is_node, library_at, link, numbered, outbox, place}
+use Rattle.dds_cluster.specs.declared.step.Input.TheVariants as input
+use Rattle.dds_cluster.specs.declared.step.Message.{Message}
+use Rattle.dds_cluster.specs.declared.step.Step.{Step}
+use Rattle.dds_cluster.specs.declared.step.Step.TheVariants as step
 use Rattle.dds_law_notice.proofs.Channels.{brick_status, lane, library_status, node_of}
 use Rattle.dds_law_notice.proofs.Facts.{node-low}
 use Rattle.dds_law_notice.proofs.Inputs.{brick-found, library-found}

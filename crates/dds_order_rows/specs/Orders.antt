@@ -10,6 +10,7 @@ use Rattle.dds_base.specs.declared.number.NodeNo.{NodeNo}
 use Rattle.dds_base.specs.declared.pair.Pair.{Pair}
 use Rattle.dds_groups.specs.Leaves.{successor}
 use Rattle.dds_history.specs.Map.{Map, pairs_of}
+use Rattle.dds_letters.specs.declared.copied_pairs.TheConstants.{COPIED}
 use Rattle.dds_letters.specs.declared.letter.Letter.TheVariants as letter
 use Rattle.dds_letters.specs.declared.refusal.Refusal.{Refusal}
 use Rattle.dds_letters.specs.declared.refusal.Wanted.{Wanted}
@@ -67,10 +68,10 @@ in_order found name after (p ∷ ps) =
 abbrev pub pairs_after : Map → Name → Option ℕ → List Pair
 pairs_after pairs name after = in_order [] name after (pairs_of (entries pairs))
 
--- CopyAsk: where the sender has the lease and the name is an own leaf's, sends the next 32 pairs, and whether none
--- follow
+-- CopyAsk: where the sender has the lease and the name is an own leaf's, sends the next pairs, as many as a part takes,
+-- and whether none follow
 abbrev pub copy_part : List Pair → NodeNo → ℕ → BrickState → BrickTurn
-copy_part pairs from order s = sends s ((from, letter.CopyPart order (nat_le (length pairs) 32) (take 32 pairs)) ∷ [])
+copy_part pairs from order s = sends s ((from, letter.CopyPart order (nat_le (length pairs) COPIED) (take COPIED pairs)) ∷ [])
 
 abbrev pub copy_ask_row : BrickState → NodeNo → ℕ → Name → Option ℕ → BrickTurn
 copy_ask_row s from order name after =
@@ -80,12 +81,14 @@ copy_ask_row s from order name after =
 abbrev pub installed_over : BrickState → NodeNo → ℕ → Leaf → Option Leaf → BrickTurn
 installed_over s from order leaf None = still s
 installed_over s from order leaf (Some own) =
-    if is_some (successor own leaf) then sends (record s { leaves = replaced s.leaves own leaf }) ((from, letter.Installed order own.name) ∷ [])
+    if is_some (successor own leaf)
+    then sends (record s { leaves = replaced s.leaves own leaf }) ((from, letter.Installed order own.name) ∷ [])
     else still s
 
 -- Install: where a lease of the sender overlaps the leaf's name, the leaf lists this brick, and it comes in one step
 -- from an own leaf, replaces that one and says which it was
 abbrev pub install_row : BrickState → NodeNo → ℕ → Leaf → BrickTurn
 install_row s from order leaf =
-    if is_some (lease_of s.locks.leases leaf.name from) && has leaf.list s.number then installed_over s from order leaf (own_leaf s.leaves leaf.name)
+    if is_some (lease_of s.locks.leases leaf.name from) && has leaf.list s.number
+    then installed_over s from order leaf (own_leaf s.leaves leaf.name)
     else still s

@@ -1,12 +1,15 @@
 -- What a brick does for an order of its own.
-use Rattle.std.specs.Prelude.{ℕ, Bool, true, false, not, ◌==◌, ◌+◌, ◌-◌, ◌^◌, ◌&&◌, ◌||◌, List, [], ◌∷◌, ◌++◌, Option, Some, None, is_some, length, filter, nat_le, if◌then◌else◌}
+use Rattle.std.specs.Prelude.{ℕ, Bool, true, false, not, ◌==◌, ◌+◌, ◌-◌, ◌^◌, ◌&&◌, ◌||◌, List, [], ◌∷◌, ◌++◌, Option, Some, None, is_some, length, filter}
+use Rattle.std.specs.Prelude.{nat_le, if◌then◌else◌}
 use Rattle.std.specs.List.{list_any, list_all}
 use Rattle.std.specs.FinMap.{get, insert, remove, keys}
 use Rattle.dds_base.specs.Name.{Name, covers, overlaps, same_name}
 use Rattle.dds_base.specs.NodeSet.{has_node}
 use Rattle.dds_base.specs.BrickList.{has}
 use Rattle.dds_base.specs.Place.{is_after, last_key}
+use Rattle.dds_base.specs.declared.brick_list.TheConstants.{MEMBERS}
 use Rattle.dds_base.specs.declared.leaf.Leaf.{Leaf}
+use Rattle.dds_base.specs.declared.name.TheConstants.{DEPTH}
 use Rattle.dds_base.specs.declared.number.NodeNo.{NodeNo}
 use Rattle.dds_base.specs.declared.op.Met.{Met}
 use Rattle.dds_base.specs.declared.op.Met.TheVariants as met
@@ -25,6 +28,7 @@ use Rattle.dds_locks.specs.Pending.{any_under}
 use Rattle.dds_trie.specs.Trie.{LeafMap, put}
 use Rattle.dds_states.specs.Turn.{BrickTurn, still, sends, and_then, reply_out, to_each, without, is_none_left, unknown, unknown_others}
 use Rattle.dds_brick_rows.specs.Refusal.{is_join}
+use Rattle.dds_brick_rows.specs.declared.refusal.TheConstants.{PAIRS}
 use Rattle.dds_order_rows.specs.Orders.{leasing, releasing}
 use Rattle.dds_states.specs.declared.brick_state.BrickState.{BrickState}
 use Rattle.dds_states.specs.declared.brick_state.OpenOrder.{OpenOrder}
@@ -65,7 +69,8 @@ serving s o made task.Split =
 -- the open order is done, and gives back the leases that it was granted
 abbrev pub finishes : BrickState → OpenOrder → Leaf → BrickTurn
 finishes s o made =
-    and_then (sends (closed (serving s o made o.task) o) (to_each (unknown o.granted s.known) (letter.Release o.number o.name))) (λ t. answers t answered.Done)
+    and_then (sends (closed (serving s o made o.task) o) (to_each (unknown o.granted s.known) (letter.Release o.number o.name)))
+    (λ t. answers t answered.Done)
 
 -- the members that granted the order its lease, and for a split the brick itself, that aren't known to have stopped
 abbrev pub takes_part : BrickState → OpenOrder → ℕ → Bool
@@ -88,9 +93,9 @@ abbrev pub installs : BrickState → OpenOrder → Leaf → BrickTurn
 installs s o leaf =
     installs_from (record s { made = s.made + 1 }) o (made_leaf s o leaf o.task) (without (parting s o leaf) s.number)
 
--- the first granted member of the leaf that isn't known to have stopped
-abbrev pub first_source : BrickState → OpenOrder → Leaf → List ℕ
-first_source s o leaf = filter (λ node. has o.granted node) (live leaf.list (has_node s.known))
+-- the members of the leaf that granted their leases and aren't known to have stopped
+abbrev pub sources : BrickState → OpenOrder → Leaf → List ℕ
+sources s o leaf = filter (λ node. has o.granted node) (live leaf.list (has_node s.known))
 
 abbrev pub copies_from : BrickState → OpenOrder → List ℕ → BrickTurn
 copies_from s o [] = ends s o answered.NoSource
@@ -99,7 +104,7 @@ copies_from s o (n ∷ ns) =
 
 -- begins copying, from the first member that it can
 abbrev pub copies : BrickState → OpenOrder → Leaf → BrickTurn
-copies s o leaf = copies_from s o (first_source s o leaf)
+copies s o leaf = copies_from s o (sources s o leaf)
 
 -- all leases are there: a join copies, a split installs
 abbrev pub leased_all : BrickState → OpenOrder → Leaf → Task → BrickTurn
@@ -117,11 +122,27 @@ leases_on s o = if is_none_left o.waiting then leased_all_at s o o.leaf else sti
 -- a new order with its number
 abbrev pub opens : BrickState → Task → Name → Option Leaf → List NodeNo → OpenOrder
 opens s t name leaf asked =
-    record { number = s.orders; task = t; name = name; leaf = leaf; asked = asked; granted = []; waiting = asked; copied = []; phase = Leasing }
+    record {
+      number = s.orders;
+      task = t;
+      name = name;
+      leaf = leaf;
+      asked = asked;
+      granted = [];
+      waiting = asked;
+      copied = [];
+      phase = Leasing;
+    }
 
 -- the last epoch but two: beyond it a leaf has no successor
 abbrev pub is_worn : Leaf → Bool
 is_worn leaf = nat_le (2 ^ 64 - 2) leaf.epoch
+
+-- a join opens, and asks `via` for a lease of the name
+abbrev pub join_opens : BrickState → Name → NodeNo → BrickTurn
+join_opens s name via =
+    sends (record s { orders = s.orders + 1; order = Some (opens s (task.Join via) name None (via ∷ [])) })
+    ((via, letter.Lease s.orders (wanted.Name name)) ∷ [])
 
 -- the order Join: refused by the first reason that holds, or asks `via` for a lease of the name
 abbrev pub join_order : BrickState → Name → NodeNo → BrickTurn
@@ -130,7 +151,7 @@ join_order s name via =
     else (if is_some s.order then answers s answered.OrderOpen
     else (if list_any (λ other. overlaps other name) (keys s.leaves) then answers s answered.AlreadyThere
     else (if via == s.number || has_node s.known via then answers s answered.NoSource
-    else sends (record s { orders = s.orders + 1; order = Some (opens s (task.Join via) name None (via ∷ [])) }) ((via, letter.Lease s.orders (wanted.Name name)) ∷ []))))
+    else join_opens s name via)))
 
 -- the open order of a split
 abbrev pub new_split : BrickState → Leaf → OpenOrder
@@ -139,11 +160,14 @@ new_split s leaf = opens s task.Split leaf.name (Some leaf) (unknown_others leaf
 -- leases the leaf to the brick itself and asks every other member
 abbrev pub split_opens : BrickState → Leaf → BrickTurn
 split_opens s leaf =
-    and_then (sends (record (leasing s leaf.name s.number) { orders = s.orders + 1 }) (to_each (unknown_others leaf.list s.number s.known) (letter.Lease s.orders (wanted.Leaf leaf)))) (λ t. leases_on t (new_split s leaf))
+    and_then
+    (sends (record (leasing s leaf.name s.number) { orders = s.orders + 1 })
+    (to_each (unknown_others leaf.list s.number s.known) (letter.Lease s.orders (wanted.Leaf leaf))))
+    (λ t. leases_on t (new_split s leaf))
 
 abbrev pub split_leaf : BrickState → Leaf → BrickTurn
 split_leaf s leaf =
-    if leaf.name.depth == 16 then answers s answered.Deepest
+    if leaf.name.depth == DEPTH then answers s answered.Deepest
     else (if is_worn leaf then answers s answered.Worn
     else (if is_some (leased s.locks.leases leaf.name) then answers s (answered.Refused (met.Lease s.number))
     else (if any_under s.locks.pending leaf.name then answers s (answered.Refused (met.Lock s.number))
@@ -162,17 +186,22 @@ split_order s name =
 -- the order with its leaf, which asks every other member
 abbrev pub widened : BrickState → OpenOrder → NodeNo → Leaf → OpenOrder
 widened s o from leaf =
-    record o { leaf = Some leaf; asked = o.asked ++ unknown_others leaf.list from s.known; waiting = o.waiting ++ unknown_others leaf.list from s.known }
+    record o {
+      leaf = Some leaf;
+      asked = o.asked ++ unknown_others leaf.list from s.known;
+      waiting = o.waiting ++ unknown_others leaf.list from s.known;
+    }
 
 abbrev pub fixed : BrickState → OpenOrder → NodeNo → Leaf → BrickTurn
 fixed s o from leaf =
-    and_then (sends s (to_each (unknown_others leaf.list from s.known) (letter.Lease o.number (wanted.Leaf leaf)))) (λ t. leases_on t (widened s o from leaf))
+    and_then (sends s (to_each (unknown_others leaf.list from s.known) (letter.Lease o.number (wanted.Leaf leaf))))
+    (λ t. leases_on t (widened s o from leaf))
 
 -- a join's first lease fixes its leaf, unless that is worn or its group is full, and it asks every other member
 abbrev pub fixes : BrickState → OpenOrder → NodeNo → Leaf → BrickTurn
 fixes s o from leaf =
     if is_worn leaf then ends s o answered.Worn
-    else (if nat_le 8 (length (live leaf.list (has_node s.known))) then ends s o answered.GroupFull else fixed s o from leaf)
+    else (if nat_le MEMBERS (length (live leaf.list (has_node s.known))) then ends s o answered.GroupFull else fixed s o from leaf)
 
 abbrev pub granted_join : BrickState → OpenOrder → NodeNo → Leaf → Option Leaf → BrickTurn
 granted_join s o from leaf None = fixes s o from leaf
@@ -232,7 +261,8 @@ starts_after last (p ∷ ps) = is_after last p.key
 
 abbrev pub fits : OpenOrder → List Pair → Bool
 fits o pairs =
-    list_all (λ p. covers o.name p.key) pairs && (starts_after (last_key None o.copied) pairs && nat_le (length o.copied + length pairs) 16384)
+    list_all (λ p. covers o.name p.key) pairs
+    && (starts_after (last_key None o.copied) pairs && nat_le (length o.copied + length pairs) PAIRS)
 
 abbrev pub copied_all : BrickState → OpenOrder → Option Leaf → BrickTurn
 copied_all s o None = still (going_on s o)
@@ -251,7 +281,8 @@ is_source from (Installing made) = false
 -- CopyPart: the source's next pairs; the join asks for the pairs after them, or installs its leaf behind the last ones
 abbrev pub copy_part_row : BrickState → NodeNo → ℕ → Bool → List Pair → BrickTurn
 copy_part_row s from number last pairs =
-    at_order s number (λ o. is_source from o.phase && fits o pairs) (λ t o. copied_on t (record o { copied = o.copied ++ pairs }) from last)
+    at_order s number (λ o. is_source from o.phase && fits o pairs)
+    (λ t o. copied_on t (record o { copied = o.copied ++ pairs }) from last)
 
 -- goes on where no member is waited for any more
 abbrev pub installs_on : BrickState → OpenOrder → Leaf → BrickTurn

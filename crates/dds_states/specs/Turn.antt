@@ -2,7 +2,10 @@
 use Rattle.std.specs.Prelude.{ℕ, ◌+◌, zero, suc, Bool, true, false, not, ◌==◌, List, [], ◌∷◌, ◌++◌, Option, Some, None, map, filter}
 use Rattle.dds_base.specs.NodeSet.{has_node}
 use Rattle.dds_base.specs.declared.node_set.NodeSet.{NodeSet}
+use Rattle.dds_base.specs.Number.{Txn}
 use Rattle.dds_base.specs.declared.number.NodeNo.{NodeNo}
+use Rattle.dds_base.specs.declared.op.Reply.{Reply}
+use Rattle.dds_base.specs.declared.op.Reply.TheVariants as reply
 use Rattle.dds_groups.specs.Leaves.{live}
 use Rattle.dds_letters.specs.declared.letter.Letter.{Letter}
 use Rattle.dds_states.specs.declared.brick_state.BrickState.{BrickState}
@@ -31,6 +34,16 @@ letters_out ls = record { letters = ls; points = []; replies = [] }
 -- this answer
 abbrev pub reply_out : Replied → CoreTurn
 reply_out reply = record { letters = []; points = []; replies = reply ∷ [] }
+
+-- the attempt that read what a get is answered: none where the answer is no get's result
+abbrev pub read_of : Txn → Reply → Option Txn
+read_of txn (reply.Value value) = Some txn
+read_of txn reply.Absent = Some txn
+read_of txn (reply.Done was) = None
+read_of txn (reply.Swapped done) = None
+read_of txn (reply.Again met) = None
+read_of txn (reply.Full brick) = None
+read_of txn (reply.Lost name) = None
 
 -- what the first gives, and then what the second gives
 abbrev pub both : CoreTurn → CoreTurn → CoreTurn

@@ -1,35 +1,48 @@
 //! What a turn of a node gives besides its new state.
 
 ghost use Rattle.std.specs.Prelude.{◌≡◌, [], ◌∷◌, IfOk};
-ghost use Rattle.dds_states.specs.Turn.{no_out, letters_out, reply_out, both};
+ghost use Rattle.dds_states.specs.Turn.{no_out, letters_out, reply_out, both, read_of};
 
 use dds_base::items::Items;
 use dds_base::memory::Memory;
 use dds_base::number::{CallNo, CallerNo, NodeNo, TxnNo};
 use dds_base::op::{OrderReply, Reply};
+use dds_base::pending::Pending;
 use dds_base::value::Value;
 use dds_letters::letter::Letter;
 use dds_letters::outbox::Outbox;
 use std::alloc::Global;
 
-/// A moment that may become an entry of the history: a brick read a key for a get, or applied an update. `was` is the
-/// update's flag: of a swap, whether the key was bound to the expected bytes, and else whether it was there.
+/// A moment that may become an entry of the history: a brick read a key for a get, or applied an update that was pending
+/// there. `was` is the update's flag: of a swap, whether the key was bound to the expected bytes, and else whether it was
+/// there.
 #[derive(Debug, Drop)]
 pub enum Point {
     Read { txn: TxnNo, value: Option<Value> },
-    Applied { txn: TxnNo, was: bool },
+    Applied { pending: Pending, was: bool },
 }
 
-/// An answer: of a call, with the attempt that gave it, or of an order.
+/// An answer: of a call, or of an order. Where the answer is what a get read, `read` is the attempt that read it.
 #[derive(Debug, Drop)]
 pub enum Replied {
     Call {
-        txn: TxnNo,
+        read: Option<TxnNo>,
         caller: CallerNo,
         call: CallNo,
         reply: Reply,
     },
     Order(OrderReply),
+}
+
+/// The attempt that read what a get is answered: none where the answer is no get's result.
+pub fn read_of(txn: TxnNo, reply: &Reply) -> Option<TxnNo>
+    ensures { result ≡ read_of txn reply.now }
+{
+    match reply {
+        Reply::Value(_) | Reply::Absent => Some(txn),
+        Reply::Done { was: _ } | Reply::Swapped { done: _ } => None,
+        Reply::Again(_) | Reply::Full { brick: _ } | Reply::Lost { name: _ } => None,
+    }
 }
 
 pub type PointList = Items<Point>;

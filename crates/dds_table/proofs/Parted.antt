@@ -14,7 +14,7 @@ use Rattle.dds_chains.specs.Index.{AreKeysOf, IsIndex, IsTable, found, slot_valu
 use Rattle.dds_table.specs.Split.{covered, KeysAreOf, IsParted}
 use Rattle.dds_table.specs.Store.{named, maps_of, map_named, AllIndex, AllTables}
 use Rattle.dds_chains.specs.declared.table.Slot.{Slot}
-use Rattle.dds_chains.specs.declared.table.Table.{Table}
+use Rattle.dds_chains.specs.declared.table.Chains.{Chains}
 use Rattle.dds_chains.proofs.Adding.{is-at}
 use Rattle.dds_chains.proofs.Contents.{content-found}
 
@@ -26,7 +26,7 @@ found-covered a name b (s ∷ ss) q h e = (elim (s.key == q) as (λ t. (s.key ==
   | false ↦ λ t e. found-covered a name b ss q h.3 e
 ]) refl e
 
-content-covered : (a : Pages) (table : Table) → IsIndex table → IsTable a table → KeysAreOf table.name (content a table.root)
+content-covered : (a : Pages) (table : Chains) → IsIndex table → IsTable a table → KeysAreOf table.name (content a table.root)
 content-covered a table x t q h =
     found-covered a table.name (bucket_no q) (get_or table.buckets.items (bucket_no q) []) q (x.keys (bucket_no q)) (ap is_some (sym (content-found a table q x t)) ∙ h)
 
@@ -34,7 +34,7 @@ same-covers : (a b : Name) (q : ℕ) → same_name a b ≡ true → covers a q �
 same-covers a b q s h = grind (arith, nat_tests, s, h)
 
 -- so each table's keys are
-pub maps-covered : (a : Pages) (tables : List Table) (name : Name) → AllIndex tables → AllTables a tables → KeysAreOf name (map_named (maps_of a (named tables)) name)
+pub maps-covered : (a : Pages) (tables : List Chains) (name : Name) → AllIndex tables → AllTables a tables → KeysAreOf name (map_named (maps_of a (named tables)) name)
 maps-covered a [] name x t q h = let e : contains_key (map_named (maps_of a (named [])) name) q ≡ false = ap is_some (get-empty nat_cmp q) in cc
 maps-covered a (s ∷ ss) name x t q h = (elim (same_name s.name name) as (λ u. same_name s.name name ≡ u → contains_key (cond u (content a s.root) (map_named (maps_of a (named ss)) name)) q ≡ true → covers name q ≡ true) [
   | true ↦ λ u h. same-covers s.name name q u (content-covered a s x.0 t.0 q h)

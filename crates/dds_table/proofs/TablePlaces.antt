@@ -6,7 +6,7 @@ use Rattle.std.proofs.lemmas.Bool.Decides.{nat_tests}
 use Rattle.std.proofs.lemmas.Grind.{common_steps}
 use Rattle.std.proofs.lemmas.List.{drop_all, take-append-drop}
 use Rattle.dds_base.specs.Name.{Name, same_name}
-use Rattle.dds_chains.specs.declared.table.Table.{Table}
+use Rattle.dds_chains.specs.declared.table.Chains.{Chains}
 use Rattle.dds_table.specs.Store.{Named, named, place_named}
 use Rattle.std.specs.Ordering.{nat_cmp, is_eq}
 use Rattle.std.specs.Cmp.{tied_then}
@@ -109,7 +109,7 @@ moved-init ts at name n place le past =
     let twice : o ≡ or_else x o = old-behind ts at name n le ∙ or-twice x _ ∙ ap (or_else x) (sym (old-behind ts at name n le)) in
     twice ∙ ap (λ ys. or_else x (or_else (option_map (λ k. place + k) (place_named ys n)) o)) (sym none)
 
-pub length-named : (tables : List Table) → length (named tables) ≡ length tables
+pub length-named : (tables : List Chains) → length (named tables) ≡ length tables
 length-named tables = grind (arith, common_steps)
 
 number-alike : (x y : ℕ) → is_eq (nat_cmp x y) ≡ (x == y)
@@ -246,36 +246,36 @@ moved-end ts at name n mine its le m i = by-place (place_named ts n) refl
     by-place (Some r) e = end-there ts name n r mine its e (i ∙ moved-all ts at name n le ∙ ap (λ o. or_else o (old_place ts at name n)) e) (λ eq. m ∙ ap (moved_place ts at name at) eq ∙ sym i) ∙ sym e
     by-place None e = end-gone ts name n mine its e (λ other. i ∙ moved-all ts at name n le ∙ ap (λ o. or_else o (old_place ts at name n)) e ∙ old-other ts at name n le e other) ∙ sym e
 
-pub split-named : (tables : List Table) (p : ℕ) (t : Table) → p < length tables → t ≡ get_or tables p t → drop p (named tables) ≡ (t.name, t.root) ∷ drop (suc p) (named tables)
+pub split-named : (tables : List Chains) (p : ℕ) (t : Chains) → p < length tables → t ≡ get_or tables p t → drop p (named tables) ≡ (t.name, t.root) ∷ drop (suc p) (named tables)
 split-named [] p t lt e = absurd (omega (arith, lt))
-split-named (x ∷ xs) zero t lt e = ap (λ (y : Table). (y.name, y.root) ∷ named xs) (sym e)
+split-named (x ∷ xs) zero t lt e = ap (λ (y : Chains). (y.name, y.root) ∷ named xs) (sym e)
 split-named (x ∷ xs) (suc p) t lt e = split-named xs p t (omega (arith, lt)) e
 
-named-more : (tables : List Table) (t : Table) → named (tables ++ t ∷ []) ≡ named tables ++ (t.name, t.root) ∷ []
+named-more : (tables : List Chains) (t : Chains) → named (tables ++ t ∷ []) ≡ named tables ++ (t.name, t.root) ∷ []
 named-more [] t = refl
 named-more (x ∷ xs) t = ap (λ (ns : List Named). (x.name, x.root) ∷ ns) (named-more xs t)
 
-pub placed-more : (places : BTreeMap Name ℕ) (tables new : List Table) (t : Table) (name : Name) → ((root : ℕ) → IsPlaced places (named tables ++ (name, root) ∷ [])) → new ≡ tables ++ t ∷ [] → t.name ≡ name → IsPlaced places (named new)
+pub placed-more : (places : BTreeMap Name ℕ) (tables new : List Chains) (t : Chains) (name : Name) → ((root : ℕ) → IsPlaced places (named tables ++ (name, root) ∷ [])) → new ≡ tables ++ t ∷ [] → t.name ≡ name → IsPlaced places (named new)
 placed-more places tables new t name h e same =
     subst (IsPlaced places) (sym (ap named e ∙ named-more tables t ∙ ap (λ (m : Name). named tables ++ (m, t.root) ∷ []) same)) (h t.root)
 
 pub placed-kept : (places : BTreeMap Name ℕ) (now was : List Named) → now ≡ was → IsPlaced places was → IsPlaced places now
 placed-kept places now was e h = subst (IsPlaced places) (sym e) h
 
-removed-place : (tables : List Table) (i : ℕ) (t : Table) (n : Name) → i < length tables → t ≡ get_or tables i t → place_named (named tables) n ≡ old_place (named (remove tables i)) i t.name n
+removed-place : (tables : List Chains) (i : ℕ) (t : Chains) (n : Name) → i < length tables → t ≡ get_or tables i t → place_named (named tables) n ≡ old_place (named (remove tables i)) i t.name n
 removed-place [] i t n lt e = absurd (omega (arith, lt))
-removed-place (x ∷ xs) zero t n lt e = ap (λ (y : Table). cond (same_name y.name n) (Some 0) (option_map suc (place_named (named xs) n))) (sym e)
+removed-place (x ∷ xs) zero t n lt e = ap (λ (y : Chains). cond (same_name y.name n) (Some 0) (option_map suc (place_named (named xs) n))) (sym e)
 removed-place (x ∷ xs) (suc i) t n lt e = ap (λ o. cond (same_name x.name n) (Some 0) (option_map suc o)) (removed-place xs i t n (omega (arith, lt)) e)
 
-pub placed-less : (places : BTreeMap Name ℕ) (tables now : List Table) (i : ℕ) (t : Table) (name : Name) → IsPlaced places (named tables) → now ≡ remove tables i → i < length tables → t ≡ get_or tables i t → t.name ≡ name → (n : Name) → tree.get name_cmp places n ≡ old_place (named now) i name n
+pub placed-less : (places : BTreeMap Name ℕ) (tables now : List Chains) (i : ℕ) (t : Chains) (name : Name) → IsPlaced places (named tables) → now ≡ remove tables i → i < length tables → t ≡ get_or tables i t → t.name ≡ name → (n : Name) → tree.get name_cmp places n ≡ old_place (named now) i name n
 placed-less places tables now i t name h e lt at same n =
-    h n ∙ removed-place tables i t n lt at ∙ ap (λ (ts : List Table). old_place (named ts) i t.name n) (sym e) ∙ ap (λ (m : Name). old_place (named now) i m n) same
+    h n ∙ removed-place tables i t n lt at ∙ ap (λ (ts : List Chains). old_place (named ts) i t.name n) (sym e) ∙ ap (λ (m : Name). old_place (named now) i m n) same
 
 prior : (o : Option ℕ) (i : ℕ) → option_map suc o ≡ Some (suc i) → o ≡ Some i
 prior None i h = cc
 prior (Some k) i h = cc
 
-first-free : (tables : List Table) (i : ℕ) (name : Name) → place_named (named tables) name ≡ Some i → place_named (take i (named (remove tables i))) name ≡ None
+first-free : (tables : List Chains) (i : ℕ) (name : Name) → place_named (named tables) name ≡ Some i → place_named (take i (named (remove tables i))) name ≡ None
 first-free [] i name h = cc
 first-free (x ∷ xs) zero name h = refl
 first-free (x ∷ xs) (suc i) name h =
@@ -284,13 +284,13 @@ first-free (x ∷ xs) (suc i) name h =
       | false ↦ λ e. ap (option_map suc) (first-free xs i name (prior (place_named (named xs) name) i e))
     ]) h
 
-pub first-less : (tables now : List Table) (i : ℕ) (name : Name) → now ≡ remove tables i → place_named (named tables) name ≡ Some i → place_named (take i (named now)) name ≡ None
-first-less tables now i name e h = ap (λ (ts : List Table). place_named (take i (named ts)) name) e ∙ first-free tables i name h
+pub first-less : (tables now : List Chains) (i : ℕ) (name : Name) → now ≡ remove tables i → place_named (named tables) name ≡ Some i → place_named (take i (named now)) name ≡ None
+first-less tables now i name e h = ap (λ (ts : List Chains). place_named (take i (named ts)) name) e ∙ first-free tables i name h
 
-removed-long : (tables : List Table) (i : ℕ) → i < length tables → i ≤ length (remove tables i)
+removed-long : (tables : List Chains) (i : ℕ) → i < length tables → i ≤ length (remove tables i)
 removed-long [] i lt = absurd (omega (arith, lt))
 removed-long (x ∷ xs) zero lt = omega arith
 removed-long (x ∷ xs) (suc i) lt = let r = removed-long xs i (omega (arith, lt)) in omega (arith, r)
 
-pub long-less : (tables now : List Table) (i : ℕ) → now ≡ remove tables i → i < length tables → i ≤ length now
-long-less tables now i e lt = subst (λ (ts : List Table). i ≤ length ts) (sym e) (removed-long tables i lt)
+pub long-less : (tables now : List Chains) (i : ℕ) → now ≡ remove tables i → i < length tables → i ≤ length now
+long-less tables now i e lt = subst (λ (ts : List Chains). i ≤ length ts) (sym e) (removed-long tables i lt)

@@ -8,7 +8,7 @@ use Rattle.dds_cache.specs.Kept.{CacheState, cache_code}
 use Rattle.dds_chains.specs.Content.{Map, content}
 use Rattle.dds_chains.specs.Index.{vacant, tables_use, IsIndex, IsTable}
 use Rattle.dds_chains.specs.declared.table.Slot.{Slot}
-use Rattle.dds_chains.specs.declared.table.Table.{Table}
+use Rattle.dds_chains.specs.declared.table.Chains.{Chains}
 
 -- a table's name and its root page
 abbrev pub Named : Type 0
@@ -33,11 +33,11 @@ store_code {D = D} d =
     code_by (CacheState D × (List (Name × ℕ) × (List (List (List Slot)) × Bool))) (coded× (cache_code d) (coded× (coded_list (coded× name_code coded_ℕ)) (coded× (coded_list (coded_list (coded_list slot_code))) coded_bool)))
     (λ s. (s.cache, (s.tables, (s.slots, s.failed)))) (λ p. record { cache = p.0; tables = p.1.0; slots = p.1.1.0; failed = p.1.1.1 }) (λ _. refl)
 
-abbrev pub named : List Table → List Named
+abbrev pub named : List Chains → List Named
 named tables = map (λ table. (table.name, table.root)) tables
 
 -- the slots of the buckets of each table
-abbrev pub slots_of : List Table → List (List (List Slot))
+abbrev pub slots_of : List Chains → List (List (List Slot))
 slots_of tables = map (λ table. table.buckets.items) tables
 
 abbrev pub names : List Named → List Name
@@ -76,17 +76,17 @@ without_slots [] slots name = slots
 without_slots (table ∷ tables) [] name = []
 without_slots (table ∷ tables) (buckets ∷ slots) name = if same_name table.0 name then slots else buckets ∷ without_slots tables slots name
 
-abbrev pub AllIndex : List Table → Type 0
+abbrev pub AllIndex : List Chains → Type 0
 AllIndex [] = Unit {0}
 AllIndex (table ∷ tables) = IsIndex table × AllIndex tables
 
-abbrev pub AllTables : Pages → List Table → Type 0
+abbrev pub AllTables : Pages → List Chains → Type 0
 AllTables pages [] = Unit {0}
 AllTables pages (table ∷ tables) = IsTable pages table × AllTables pages tables
 
 -- what is true of a store of which no call failed: each page is vacant or in one use, and no other; and each table may
 -- be dropped without taking memory
-pub record IsStore (told : Option Pages) (free : List ℕ) (fresh : ℕ) (tables dropped : List Table) (capacity : ℕ) : Type 0 where
+pub record IsStore (told : Option Pages) (free : List ℕ) (fresh : ℕ) (tables dropped : List Chains) (capacity : ℕ) : Type 0 where
   pub balance : (n : ℕ) → vacant n free fresh + tables_use n tables + tables_use n dropped ≡ 1
   pub room : length tables + length dropped ≤ capacity
   pub index : AllIndex tables

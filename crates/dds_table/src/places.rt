@@ -8,7 +8,7 @@ ghost use Rattle.dds_table.specs.Places.{name_cmp, IsPlaced, old_place, is_from,
 
 use dds_base::memory::Memory;
 use dds_base::name::LeafName;
-use dds_chains::table::Table;
+use dds_chains::table::Chains;
 use std::collections::BTreeMap;
 
 /// Whether both names are the same.
@@ -19,7 +19,7 @@ fn is_same(a: &LeafName, b: &LeafName) -> bool
 }
 
 /// The place of the table of a name. Looks at each table.
-pub(crate) fn find(tables: &[Table], name: &LeafName) -> Option<usize>
+pub(crate) fn find(tables: &[Chains], name: &LeafName) -> Option<usize>
     ensures value { result ≡ place_named (named tables.now) name.now }
     ensures within { IfSome result (λ place. place < length tables.now) }
 {
@@ -34,7 +34,7 @@ pub(crate) fn find(tables: &[Table], name: &LeafName) -> Option<usize>
 /// The place of the table of a name that is there.
 pub(crate) fn place_in(
     places: &BTreeMap<LeafName, usize>,
-    tables: &[Table],
+    tables: &[Chains],
     name: &LeafName,
 ) -> usize
     requires placed { IsPlaced places.now (named tables.now) }
@@ -52,7 +52,7 @@ pub(crate) fn place_in(
 /// Notes the place of a table that is to come behind the others, if it is the first of its name.
 pub(crate) fn note(
     places: &mut BTreeMap<LeafName, usize>,
-    tables: &[Table],
+    tables: &[Chains],
     name: LeafName,
 ) -> Result<(), Memory>
     requires { IsPlaced places.old (named tables.now) }
@@ -85,7 +85,7 @@ fn move_to(places: &mut BTreeMap<LeafName, usize>, name: LeafName, at: usize, pl
 }
 
 /// Whether the table at a name's place is of that name.
-fn stands(places: &BTreeMap<LeafName, usize>, tables: &[Table], name: &LeafName) -> bool
+fn stands(places: &BTreeMap<LeafName, usize>, tables: &[Chains], name: &LeafName) -> bool
     ensures { result ≡ stands_at (named tables.now) name.now (tree.get name_cmp places.now name.now) }
 {
     let Some(place) = places.get(name) else {
@@ -98,7 +98,7 @@ fn stands(places: &BTreeMap<LeafName, usize>, tables: &[Table], name: &LeafName)
 }
 
 /// Forgets a name whose place has no table of that name.
-fn forget_stale(places: &mut BTreeMap<LeafName, usize>, tables: &[Table], name: &LeafName)
+fn forget_stale(places: &mut BTreeMap<LeafName, usize>, tables: &[Chains], name: &LeafName)
     ensures { (n : Name) → tree.get name_cmp places.new n ≡ (if same_name name.now n && not (stands_at (named tables.now) name.now (tree.get name_cmp places.old name.now)) then None else tree.get name_cmp places.old n) }
 {
     if !stands(places, tables, name) {
@@ -109,7 +109,7 @@ fn forget_stale(places: &mut BTreeMap<LeafName, usize>, tables: &[Table], name: 
 /// Moves the places behind a table that was taken out up by one, and forgets its name, if it has no further table.
 pub(crate) fn forget(
     places: &mut BTreeMap<LeafName, usize>,
-    tables: &[Table],
+    tables: &[Chains],
     name: &LeafName,
     at: usize,
 )

@@ -22,7 +22,7 @@ use dds_chains::pairs::{create, get};
 use dds_chains::part::{Part, read_part};
 use dds_chains::removal::reclaim;
 use dds_chains::space::Space;
-use dds_chains::table::Table;
+use dds_chains::table::Chains;
 use dds_disk::disk::Disk;
 use std::alloc::Global;
 use std::collections::BTreeMap;
@@ -32,9 +32,9 @@ use std::marker::Model;
 #[derive(Drop)]
 pub struct Store<D: Disk> {
     space: Space<D>,
-    tables: Vec<Table>,
+    tables: Vec<Chains>,
     places: BTreeMap<LeafName, usize>,
-    dropped: Vec<Table>,
+    dropped: Vec<Chains>,
     failed: bool,
 }
 
@@ -276,7 +276,7 @@ impl<D: Disk> Store<D> {
 }
 
 /// Makes room for more tables.
-fn reserve(tables: &mut Vec<Table>, more: usize) -> Result<(), Memory>
+fn reserve(tables: &mut Vec<Chains>, more: usize) -> Result<(), Memory>
     ensures items { tables.new.items ≡ tables.old.items }
     ensures room { OnOk result (length tables.new.items + more ≤ vec_capacity tables.new) }
 {
@@ -285,7 +285,7 @@ fn reserve(tables: &mut Vec<Table>, more: usize) -> Result<(), Memory>
 }
 
 /// Adds a table behind the others, for which there is room.
-fn drop_into(tables: &mut Vec<Table>, table: Table)
+fn drop_into(tables: &mut Vec<Chains>, table: Chains)
     requires { length tables.old.items < vec_capacity tables.old }
     ensures items { tables.new.items ≡ tables.old.items ++ table ∷ [] }
     ensures capacity { vec_capacity tables.old ≤ vec_capacity tables.new }
@@ -294,7 +294,7 @@ fn drop_into(tables: &mut Vec<Table>, table: Table)
 }
 
 /// Adds a table behind the others.
-fn push(tables: &mut Vec<Table>, table: Table) -> Result<(), Memory>
+fn push(tables: &mut Vec<Chains>, table: Chains) -> Result<(), Memory>
     ensures { OnOk result (tables.new.items ≡ tables.old.items ++ table ∷ []) }
 {
     tables.push(table)?;

@@ -23,12 +23,12 @@ use Rattle.dds_walk.proofs.Walked.{IsWalked, walked-first, walked-line}
 use Rattle.dds_walk.specs.Picking.{begun}
 use Rattle.dds_walk.specs.Walk.{Moved, call_alone, call_along, call_line, call_with, counted, ended, events_said, first_walk, has_event, is_asked, line_done, lines_done, makes_call, moves, played, plays_rest, plays_to, quiet_said, says, show_line, step_line, stop_line, transcript, tries}
 use Rattle.dds_walk.specs.declared.walk.Walk.{Walk}
-use Rattle.dds_world.specs.Trace.{is_possible}
-use Rattle.dds_world.specs.declared.step.Input.TheVariants as input
-use Rattle.dds_world.specs.declared.step.Step.{Step}
-use Rattle.dds_world.specs.declared.step.Step.TheVariants as step
-use Rattle.dds_world.specs.declared.trace.Asked.{Asked}
-use Rattle.dds_world.specs.declared.trace.Caller.{Caller}
+use Rattle.dds_cluster.specs.Trace.{is_possible}
+use Rattle.dds_cluster.specs.declared.step.Input.TheVariants as input
+use Rattle.dds_cluster.specs.declared.step.Step.{Step}
+use Rattle.dds_cluster.specs.declared.step.Step.TheVariants as step
+use Rattle.dds_cluster.specs.declared.trace.Asked.{Asked}
+use Rattle.dds_cluster.specs.declared.trace.Caller.{Caller}
 
 -- a call line more is counted: no count falls
 grown : (ns : List ℕ) (i k : ℕ) → slice_index_or ns k 0 ≤ slice_index_or (slice_set ns i (slice_index_or ns i 0 + 1)) k 0

@@ -15,12 +15,12 @@ use Rattle.dds_walk.specs.Walk.{Moved, event, event_by, lead_behind, lead_in, le
 use Rattle.dds_walk.specs.declared.walk.Lead.{Lead}
 use Rattle.dds_walk.specs.declared.walk.Lead.TheVariants.{Next}
 use Rattle.dds_walk.specs.declared.walk.Walk.{Walk}
-use Rattle.dds_world.specs.World.{World}
-use Rattle.dds_world.specs.declared.step.Input.{Input}
-use Rattle.dds_world.specs.declared.step.Input.TheVariants as input
-use Rattle.dds_world.specs.declared.step.Message.{Message}
-use Rattle.dds_world.specs.declared.step.Step.{Step}
-use Rattle.dds_world.specs.declared.step.Step.TheVariants as step
+use Rattle.dds_cluster.specs.World.{World}
+use Rattle.dds_cluster.specs.declared.step.Input.{Input}
+use Rattle.dds_cluster.specs.declared.step.Input.TheVariants as input
+use Rattle.dds_cluster.specs.declared.step.Message.{Message}
+use Rattle.dds_cluster.specs.declared.step.Step.{Step}
+use Rattle.dds_cluster.specs.declared.step.Step.TheVariants as step
 
 -- each step is the same as itself
 pub self : (n : ℕ) → (n == n) ≡ true

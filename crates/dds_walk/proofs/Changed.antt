@@ -15,16 +15,16 @@ use Rattle.dds_states.specs.declared.brick_state.BrickState.{BrickState}
 use Rattle.dds_states.specs.declared.library_state.LibraryState.{LibraryState}
 use Rattle.dds_walk.specs.Agenda.{link_of, link_to}
 use Rattle.dds_walk.specs.Walk.{node_of}
-use Rattle.dds_world.specs.Trace.{adds, is_possible, next}
-use Rattle.dds_world.specs.Turn.{at_library, at_node, brick_does, call_at, handle, input_at, library_does, order_at, points_made, post, stop_at, stop_library, tells, turn}
-use Rattle.dds_world.specs.World.{World, brick_at, emptied, library_at, link, outbox, place, set_link}
-use Rattle.dds_world.specs.declared.step.Input.{Input}
-use Rattle.dds_world.specs.declared.step.Input.TheVariants as input
-use Rattle.dds_world.specs.declared.step.Message.{Message}
-use Rattle.dds_world.specs.declared.step.Step.{Step}
-use Rattle.dds_world.specs.declared.step.Step.TheVariants as step
-use Rattle.dds_world.specs.declared.trace.Made.{Made}
-use Rattle.dds_world.specs.declared.trace.Trace.{Trace}
+use Rattle.dds_cluster.specs.Trace.{adds, is_possible, next}
+use Rattle.dds_cluster.specs.Turn.{at_library, at_node, brick_does, call_at, handle, input_at, library_does, order_at, points_made, post, stop_at, stop_library, tells, turn}
+use Rattle.dds_cluster.specs.World.{World, brick_at, emptied, library_at, link, outbox, place, set_link}
+use Rattle.dds_cluster.specs.declared.step.Input.{Input}
+use Rattle.dds_cluster.specs.declared.step.Input.TheVariants as input
+use Rattle.dds_cluster.specs.declared.step.Message.{Message}
+use Rattle.dds_cluster.specs.declared.step.Step.{Step}
+use Rattle.dds_cluster.specs.declared.step.Step.TheVariants as step
+use Rattle.dds_cluster.specs.declared.trace.Made.{Made}
+use Rattle.dds_cluster.specs.declared.trace.Trace.{Trace}
 
 -- the second list is the first but at a place
 abbrev pub IsSetAt : ℕ → List (List Message) → List (List Message) → Type 0
@@ -117,7 +117,7 @@ at-node-changes : (to : Option (ℕ × ℕ)) (w u : World) (at : ℕ) (node from
 at-node-changes to w u at node from m None l k e =
     at-library-changes to w u node from m (library_at u node) l (sym k)
 at-node-changes to w u at node from m (Some x) l k e =
-    brick-changes to w u node (brick_turn x from m) (points_made at x.locks.pending m (brick_turn x from m).out.points) l (brick-place w node x e)
+    brick-changes to w u node (brick_turn x from m) (points_made at m (brick_turn x from m).out.points) l (brick-place w node x e)
 
 handle-changes : (w : World) (at : ℕ) (node from : NodeNo) (ms : List Message) → IsChanged (place w node) (Some (place w from, place w node)) w (handle w at node from ms).world
 handle-changes w at node from [] = unchanged (place w node) (Some (place w from, place w node)) w

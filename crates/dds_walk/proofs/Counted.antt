@@ -3,11 +3,11 @@ use Rattle.std.proofs.Common.{◌≡◌, ℕ, ◌+◌, ◌≤◌, Bool, true, fa
 use Rattle.std.specs.Prelude.{replicate, slice_get, slice_index_or, slice_set, unwrap_or, if◌then◌else◌}
 use Rattle.dds_states.specs.declared.turn.Replied.{Replied}
 use Rattle.dds_states.specs.declared.turn.Replied.TheVariants as replied
-use Rattle.dds_world.specs.Trace.{adds, all_closed, closed_by, closes, is_possible, new_callers, next, opened_by}
-use Rattle.dds_world.specs.Turn.{turn}
-use Rattle.dds_world.specs.declared.step.Step.{Step}
-use Rattle.dds_world.specs.declared.trace.Caller.{Caller}
-use Rattle.dds_world.specs.declared.trace.Trace.{Trace}
+use Rattle.dds_cluster.specs.Trace.{adds, all_closed, closed_by, closes, is_possible, new_callers, next, opened_by}
+use Rattle.dds_cluster.specs.Turn.{turn}
+use Rattle.dds_cluster.specs.declared.step.Step.{Step}
+use Rattle.dds_cluster.specs.declared.trace.Caller.{Caller}
+use Rattle.dds_cluster.specs.declared.trace.Trace.{Trace}
 
 -- each caller has a count of its call lines, and may make a call of this number
 abbrev pub AreCounted : List Caller → List ℕ → Type 0
@@ -54,7 +54,7 @@ closed-one cs ns i None e a = a
 closed-one cs ns i (Some c) e a = counted-set cs ns i c (record c { call = None }) a e (counted-get cs ns i c a e)
 
 closed-by : (cs : List Caller) (ns : List ℕ) (r : Replied) → AreCounted cs ns → AreCounted (closed_by cs r) ns
-closed-by cs ns (replied.Call txn caller call reply) a = closed-one cs ns caller (slice_get cs caller) refl a
+closed-by cs ns (replied.Call read caller call reply) a = closed-one cs ns caller (slice_get cs caller) refl a
 closed-by cs ns (replied.Order reply) a = a
 
 closed-all : (cs : List Caller) (ns : List ℕ) (rs : List Replied) → AreCounted cs ns → AreCounted (all_closed cs rs) ns

@@ -12,8 +12,8 @@ use Rattle.dds_script.specs.Opening.{OpeningOf}
 use Rattle.dds_walk.specs.Agenda.{entries, entry_of, event_of, link_entries, row_entries, step_in}
 use Rattle.dds_walk.specs.Picking.{all_handles, events, first_of, handles, node_at, posts}
 use Rattle.dds_walk.specs.declared.picking.Event.{Event}
-use Rattle.dds_world.specs.World.{World, opening_world}
-use Rattle.dds_world.specs.declared.step.Message.{Message}
+use Rattle.dds_cluster.specs.World.{World, opening_world}
+use Rattle.dds_cluster.specs.declared.step.Message.{Message}
 
 -- the events
 first-is : (b : ℕ) (slot : Slot) (o : Option Message) (es : List Event) (fs : List Entry) → es ≡ map (event_of b) fs → first_of (step_in b slot) o ++ es ≡ map (event_of b) (option_to_list (entry_of slot o) ++ fs)

@@ -11,11 +11,11 @@ use Rattle.dds_agenda.specs.declared.entry.Slot.TheVariants.{Outbox, Link}
 use Rattle.dds_walk.proofs.Changed.{IsChanged, IsLinkSet, next-changes}
 use Rattle.dds_walk.specs.Agenda.{Unless, entries, entry_at, entry_of, entry_on, link_entries, link_of, row_entries}
 use Rattle.dds_walk.specs.Walk.{node_of}
-use Rattle.dds_world.specs.Trace.{next}
-use Rattle.dds_world.specs.World.{World, place}
-use Rattle.dds_world.specs.declared.step.Message.{Message}
-use Rattle.dds_world.specs.declared.step.Step.{Step}
-use Rattle.dds_world.specs.declared.trace.Trace.{Trace}
+use Rattle.dds_cluster.specs.Trace.{next}
+use Rattle.dds_cluster.specs.World.{World, place}
+use Rattle.dds_cluster.specs.declared.step.Message.{Message}
+use Rattle.dds_cluster.specs.declared.step.Step.{Step}
+use Rattle.dds_cluster.specs.declared.trace.Trace.{Trace}
 
 -- the entry of a slot with these letters
 abbrev first : Slot → List Message → Option Entry

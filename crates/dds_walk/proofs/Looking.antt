@@ -5,7 +5,7 @@ use Rattle.std.specs.List.{list_any}
 use Rattle.std.proofs.lemmas.Grind.{common_steps}
 use Rattle.dds_base.specs.declared.number.CallNo.{CallNo}
 use Rattle.dds_walk.specs.Walk.{makes_call, makes_call_at}
-use Rattle.dds_world.specs.declared.step.Step.{Step}
+use Rattle.dds_cluster.specs.declared.step.Step.{Step}
 
 -- the step at a place, and those behind it
 pub any-at : (caller : ℕ) (call : CallNo) (xs : List Step) (i : ℕ) → i < length xs → list_any (makes_call caller call) (drop i xs) ≡ (makes_call_at caller call (slice_get xs i) || list_any (makes_call caller call) (drop (i + 1) xs))

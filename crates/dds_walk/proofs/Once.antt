@@ -9,8 +9,8 @@ use Rattle.dds_walk.proofs.AlongLines.{lines-alone}
 use Rattle.dds_walk.proofs.Walked.{steps-run}
 use Rattle.dds_walk.specs.Walk.{ended, first_walk, lines_done, plays_rest}
 use Rattle.dds_walk.specs.declared.walk.Walk.{Walk}
-use Rattle.dds_world.specs.Trace.{is_run}
-use Rattle.dds_world.specs.declared.step.Step.{Step}
+use Rattle.dds_cluster.specs.Trace.{is_run}
+use Rattle.dds_cluster.specs.declared.step.Step.{Step}
 
 pub walked-once : (limit : ℕ) (script : ScriptOf) (w v : Walk) (ls : List Line)
     → w ≡ first_walk script None → ls ≡ script.lines → v ≡ lines_done limit w ls

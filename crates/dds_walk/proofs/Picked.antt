@@ -2,16 +2,16 @@
 use Rattle.std.proofs.Common.{◌≡◌, ℕ, ◌+◌, ◌-◌, ◌<◌, ◌≤◌, Bool, true, false, List, [], ◌∷◌, ◌++◌, Option, Some, None, drop, length, zero, suc, refl, ap, ◌∙◌, arith}
 use Rattle.std.specs.Prelude.{◌&&◌, ◌==◌, is_some, nat_lt, position, slice_get, slice_index_or, if◌then◌else◌, IfSome}
 use Rattle.std.proofs.lemmas.Bool.{lt-ltb, le-ltb, ltb-true, ltb-false}
-use Rattle.dds_walk.proofs.Sizes.{AreRows, IsSized}
+use Rattle.dds_cluster.proofs.Sizes.{AreRows, IsSized}
 use Rattle.dds_walk.specs.Picking.{all_handles, events, first_of, handles, node_at, picked_of, posts, rank, rank_of, step_at, step_of}
 use Rattle.dds_walk.specs.declared.picking.Event.{Event}
 use Rattle.dds_walk.specs.declared.picking.Picking.{Picking}
-use Rattle.dds_world.specs.Trace.{has_first, is_possible, opened_by}
-use Rattle.dds_world.specs.World.{World, is_node, link, outbox, place}
-use Rattle.dds_world.specs.declared.step.Message.{Message}
-use Rattle.dds_world.specs.declared.step.Step.{Step}
-use Rattle.dds_world.specs.declared.step.Step.TheVariants as step
-use Rattle.dds_world.specs.declared.trace.Trace.{Trace}
+use Rattle.dds_cluster.specs.Trace.{has_first, is_possible, opened_by}
+use Rattle.dds_cluster.specs.World.{World, is_node, link, outbox, place}
+use Rattle.dds_cluster.specs.declared.step.Message.{Message}
+use Rattle.dds_cluster.specs.declared.step.Step.{Step}
+use Rattle.dds_cluster.specs.declared.step.Step.TheVariants as step
+use Rattle.dds_cluster.specs.declared.trace.Trace.{Trace}
 
 -- something is true of each event's step
 abbrev pub AreSteps : (Step → Type 0) → List Event → Type 0

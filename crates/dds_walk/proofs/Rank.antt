@@ -12,8 +12,8 @@ use Rattle.dds_walk.proofs.Entries.{entries-placed, events-are}
 use Rattle.dds_walk.specs.Agenda.{entries, event_of}
 use Rattle.dds_walk.specs.Picking.{events, rank_of, ranked, step_at, step_of}
 use Rattle.dds_walk.specs.declared.picking.Event.{Event}
-use Rattle.dds_world.specs.World.{World}
-use Rattle.dds_world.specs.declared.step.Step.{Step}
+use Rattle.dds_cluster.specs.World.{World}
+use Rattle.dds_cluster.specs.declared.step.Step.{Step}
 
 get-past : (es : List Event) (i : ℕ) → length es ≤ i → slice_get es i ≡ None
 get-past [] i l = refl

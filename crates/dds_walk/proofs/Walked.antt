@@ -18,17 +18,17 @@ use Rattle.dds_transcript.specs.declared.report_line.ReportLine.TheVariants as r
 use Rattle.dds_walk.proofs.Counted.{AreCounted, counted-get, counted-here, counted-more, counted-next, counted-set, counted-start}
 use Rattle.dds_walk.proofs.Moves.{moves-over, moves-suc}
 use Rattle.dds_walk.proofs.Picked.{IsEvent, all-events, both-true, steps-picked}
-use Rattle.dds_walk.proofs.Sizes.{IsSized, sized-next, sized-start}
+use Rattle.dds_cluster.proofs.Sizes.{IsSized, sized-next, sized-start}
 use Rattle.dds_walk.specs.Picking.{events}
 use Rattle.dds_walk.specs.Walk.{Moved, after_event, call_alone, call_line, call_with, counted, event, event_by, first_walk, has_event, lead_in, left, left_of, line_done, lines_done, makes_by, moves, on_event, or_stays, picked_in, picks_in, played, says, tries}
 use Rattle.dds_walk.specs.declared.walk.Walk.{Walk}
-use Rattle.dds_world.specs.Trace.{is_possible, is_run, is_run_from, may_call, may_order, next, opened_by, opens, run_of, start, trace_from}
-use Rattle.dds_world.specs.World.{World}
-use Rattle.dds_world.specs.declared.step.Input.TheVariants as input
-use Rattle.dds_world.specs.declared.step.Step.{Step}
-use Rattle.dds_world.specs.declared.step.Step.TheVariants as step
-use Rattle.dds_world.specs.declared.trace.Caller.{Caller}
-use Rattle.dds_world.specs.declared.trace.Trace.{Trace}
+use Rattle.dds_cluster.specs.Trace.{is_possible, is_run, is_run_from, may_call, may_order, next, opened_by, opens, run_of, start, trace_from}
+use Rattle.dds_cluster.specs.World.{World}
+use Rattle.dds_cluster.specs.declared.step.Input.TheVariants as input
+use Rattle.dds_cluster.specs.declared.step.Step.{Step}
+use Rattle.dds_cluster.specs.declared.step.Step.TheVariants as step
+use Rattle.dds_cluster.specs.declared.trace.Caller.{Caller}
+use Rattle.dds_cluster.specs.declared.trace.Trace.{Trace}
 
 -- the run so far is that of the steps made, and no journal is followed
 pub record IsWalked (o : OpeningOf) (w : Walk) : Type 0 where

@@ -5,10 +5,10 @@ use Rattle.dds_agenda.specs.declared.entry.Slot.{Slot}
 use Rattle.dds_agenda.specs.declared.entry.Slot.TheVariants.{Outbox, Link}
 use Rattle.dds_walk.specs.Picking.{node_at}
 use Rattle.dds_walk.specs.declared.picking.Event.{Event}
-use Rattle.dds_world.specs.World.{World, outbox, place}
-use Rattle.dds_world.specs.declared.step.Message.{Message}
-use Rattle.dds_world.specs.declared.step.Step.{Step}
-use Rattle.dds_world.specs.declared.step.Step.TheVariants as step
+use Rattle.dds_cluster.specs.World.{World, outbox, place}
+use Rattle.dds_cluster.specs.declared.step.Message.{Message}
+use Rattle.dds_cluster.specs.declared.step.Step.{Step}
+use Rattle.dds_cluster.specs.declared.step.Step.TheVariants as step
 
 -- the entry of a slot whose first letter is this
 abbrev pub entry_of : Slot → Option Message → Option Entry

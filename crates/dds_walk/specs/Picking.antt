@@ -1,17 +1,18 @@
 -- The events that are possible, and which of them a picker picks.
-use Rattle.std.specs.Prelude.{ℕ, ◌+◌, ◌-◌, ◌%◌, ◌==◌, Bool, List, [], ◌∷◌, ◌++◌, Option, Some, None, length, count_by, nat_lt, position, slice_get, if◌then◌else◌, zero, suc}
+use Rattle.std.specs.Prelude.{ℕ, ◌+◌, ◌-◌, ◌%◌, ◌==◌, Bool, List, [], ◌∷◌, ◌++◌, Option, Some, None, length, count_by, nat_lt, position, slice_get}
+use Rattle.std.specs.Prelude.{if◌then◌else◌, zero, suc}
 use Rattle.rand_pcg.specs.Lcg.{started, increment_of}
 use Rattle.rand_pcg.specs.Pcg.{multiplier_64, pcg32}
 use Rattle.dds_base.specs.declared.number.NodeNo.{NodeNo}
 use Rattle.dds_script.specs.declared.line.Picker.{Picker}
 use Rattle.dds_script.specs.declared.line.Picker.TheVariants as picker
-use Rattle.dds_world.specs.World.{World}
+use Rattle.dds_cluster.specs.World.{World}
 use Rattle.dds_walk.specs.declared.picking.Event.{Event}
 use Rattle.dds_walk.specs.declared.picking.Picking.{Picking}
 use Rattle.dds_walk.specs.declared.picking.Picking.TheVariants.{Fifo, Newest, Words}
-use Rattle.dds_world.specs.declared.step.Message.{Message}
-use Rattle.dds_world.specs.declared.step.Step.{Step}
-use Rattle.dds_world.specs.declared.step.Step.TheVariants as step
+use Rattle.dds_cluster.specs.declared.step.Message.{Message}
+use Rattle.dds_cluster.specs.declared.step.Step.{Step}
+use Rattle.dds_cluster.specs.declared.step.Step.TheVariants as step
 
 -- the node at a place
 abbrev pub node_at : ℕ → ℕ → NodeNo

@@ -1,5 +1,6 @@
 -- The steps that a script determines, and its transcript over a journal.
-use Rattle.std.specs.Prelude.{ℕ, ◌+◌, ◌==◌, Bool, true, false, not, ◌&&◌, ◌||◌, List, [], ◌∷◌, ◌++◌, Option, Some, None, drop, is_some, length, map, replicate, slice_get, slice_index_or, slice_set, if◌then◌else◌, zero, suc}
+use Rattle.std.specs.Prelude.{ℕ, ◌+◌, ◌==◌, Bool, true, false, not, ◌&&◌, ◌||◌, List, [], ◌∷◌, ◌++◌, Option, Some, None, drop, is_some, length, map}
+use Rattle.std.specs.Prelude.{replicate, slice_get, slice_index_or, slice_set, if◌then◌else◌, zero, suc}
 use Rattle.std.specs.List.{list_any, flat_map}
 use Rattle.dds_base.specs.Name.{Name, same_name}
 use Rattle.dds_base.specs.declared.leaf.Leaf.{Leaf}
@@ -22,18 +23,18 @@ use Rattle.dds_states.specs.declared.brick_state.BrickState.{BrickState}
 use Rattle.dds_states.specs.declared.turn.Replied.{Replied}
 use Rattle.dds_states.specs.declared.turn.Replied.TheVariants as replied
 use Rattle.dds_trie.specs.Trie.{leaves_of}
-use Rattle.dds_world.specs.World.{brick_at}
-use Rattle.dds_world.specs.Trace.{is_possible, next, replies_in, start}
+use Rattle.dds_cluster.specs.World.{brick_at}
+use Rattle.dds_cluster.specs.Trace.{is_possible, next, replies_in, start}
 use Rattle.dds_world.specs.Stands.{history}
 use Rattle.dds_walk.specs.Picking.{picked, picks, begun}
-use Rattle.dds_world.specs.declared.step.Input.{Input}
-use Rattle.dds_world.specs.declared.step.Input.TheVariants as input
-use Rattle.dds_world.specs.declared.step.Step.{Step}
-use Rattle.dds_world.specs.declared.step.Step.TheVariants as step
-use Rattle.dds_world.specs.declared.step.TheConstants.{EVENTS}
-use Rattle.dds_world.specs.declared.trace.Asked.{Asked}
-use Rattle.dds_world.specs.declared.trace.Caller.{Caller}
-use Rattle.dds_world.specs.declared.trace.Trace.{Trace}
+use Rattle.dds_cluster.specs.declared.step.Input.{Input}
+use Rattle.dds_cluster.specs.declared.step.Input.TheVariants as input
+use Rattle.dds_cluster.specs.declared.step.Step.{Step}
+use Rattle.dds_cluster.specs.declared.step.Step.TheVariants as step
+use Rattle.dds_cluster.specs.declared.step.TheConstants.{EVENTS}
+use Rattle.dds_cluster.specs.declared.trace.Asked.{Asked}
+use Rattle.dds_cluster.specs.declared.trace.Caller.{Caller}
+use Rattle.dds_cluster.specs.declared.trace.Trace.{Trace}
 use Rattle.dds_walk.specs.declared.picking.Picking.TheVariants.{Fifo}
 use Rattle.dds_walk.specs.declared.walk.Lead.{Lead}
 use Rattle.dds_walk.specs.declared.walk.Lead.TheVariants.{Astray, Next, Behind}
@@ -46,7 +47,7 @@ kind_of (order.Split brick name) = kind.Split
 
 -- the orders open at bricks after a step: its own where it wasn't answered at once, and none where one was answered
 abbrev pub is_order_reply : Replied → Bool
-is_order_reply (replied.Call txn caller call reply) = false
+is_order_reply (replied.Call read caller call reply) = false
 is_order_reply (replied.Order reply) = true
 
 abbrev pub orders_in : List (Option OrderKind) → ℕ → Bool → Input → List (Option OrderKind)
@@ -86,7 +87,7 @@ kind_or_join None = kind.Join
 kind_or_join (Some k) = k
 
 abbrev pub reply_line : Option OrderKind → NodeNo → Replied → ReportLine
-reply_line k node (replied.Call txn caller call reply) = report.Answer caller call reply
+reply_line k node (replied.Call read caller call reply) = report.Answer caller call reply
 reply_line k node (replied.Order reply) = report.OrderAnswer (kind_or_join k) node reply
 
 abbrev pub reply_lines : Walk → Step → List ReportLine

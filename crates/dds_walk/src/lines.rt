@@ -2,8 +2,8 @@
 
 ghost use Rattle.std.specs.Prelude.{◌≡◌, ◌+◌, ◌++◌, Option, is_some, option_copied, slice_get, slice_set, slice_index_or, IfOk, OnOk};
 ghost use Rattle.std.specs.List.{list_any};
-ghost use Rattle.dds_world.specs.declared.step.Step.TheVariants as step;
-ghost use Rattle.dds_world.specs.declared.step.Input.TheVariants as input;
+ghost use Rattle.dds_cluster.specs.declared.step.Step.TheVariants as step;
+ghost use Rattle.dds_cluster.specs.declared.step.Input.TheVariants as input;
 ghost use Rattle.dds_walk.specs.Walk.{call_alone, call_along, call_line, call_with, counted, is_asked, line_done, lines_done, makes_call, makes_call_at, plays_to, rest_of, step_line, stop_line, tries};
 
 use crate::moving::{events_line, quiet_line};
@@ -18,10 +18,10 @@ use dds_base::number::{CallNo, CallerNo, NodeNo};
 use dds_base::op::{Op, Order};
 use dds_script::line::Line;
 use dds_transcript::report_line::ReportLine;
-use dds_world::possible::is_possible;
-use dds_world::queue::Queue;
-use dds_world::step::{Input, Step};
-use dds_world::trace::{Asked, Caller};
+use dds_cluster::possible::is_possible;
+use dds_cluster::queue::Queue;
+use dds_cluster::step::{Input, Step};
+use dds_cluster::trace::{Asked, Caller};
 use std::alloc::Global;
 
 /// Walks lines, one after another. A `quiet` makes at most so many events.

@@ -10,7 +10,7 @@ use dds_agenda::entry::{Entry, Slot};
 use dds_base::memory::Memory;
 use dds_base::number::NodeNo;
 use dds_script::line::Picker;
-use dds_world::step::Step;
+use dds_cluster::step::Step;
 use rand_core::utils::NextWord;
 use rand_pcg::Pcg32;
 

@@ -11,8 +11,8 @@ use dds_base::memory::Memory;
 use dds_base::number::NodeNo;
 use dds_states::turn::{Replied, ReplyList};
 use dds_transcript::report_line::{OrderKind, ReportLine};
-use dds_world::possible::is_possible;
-use dds_world::step::{Input, Step};
+use dds_cluster::possible::is_possible;
+use dds_cluster::step::{Input, Step};
 use std::alloc::Global;
 
 /// Makes a step, and prints its answers.
@@ -145,7 +145,7 @@ fn reply_line(kind: Option<OrderKind>, node: NodeNo, reply: Replied) -> ReportLi
 {
     match reply {
         Replied::Call {
-            txn: _,
+            read: _,
             caller,
             call,
             reply,

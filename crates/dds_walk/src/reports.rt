@@ -3,7 +3,7 @@
 ghost use Rattle.std.specs.Prelude.{◌≡◌, ◌++◌, None, length, replicate, filter, true, IfOk, IfSome, OnOk};
 ghost use Rattle.dds_script.specs.Opening.{IsOpening};
 ghost use Rattle.dds_world.specs.Stands.{stands_in};
-ghost use Rattle.dds_world.specs.Trace.{is_run};
+ghost use Rattle.dds_cluster.specs.Trace.{is_run};
 ghost use Rattle.dds_walk.specs.Walk.{ended, first_walk, open_call_of, open_calls, open_order_of, open_orders, plays_rest, steps, transcript};
 
 use crate::lines::{lines_done, take_rest};
@@ -16,10 +16,10 @@ use dds_base::memory::Memory;
 use dds_base::number::{CallNo, CallerNo, NodeNo};
 use dds_script::opening::Script;
 use dds_transcript::report_line::{OrderKind, ReportLine};
-use dds_world::queue::Queue;
+use dds_cluster::queue::Queue;
 use dds_world::runs::stands_in;
-use dds_world::step::{EVENTS, Input, Journal, Step};
-use dds_world::trace::{Caller, Made, Told};
+use dds_cluster::step::{EVENTS, Input, Journal, Step};
+use dds_cluster::trace::{Caller, Made, Told};
 use std::alloc::Global;
 
 /// The steps of a walk, and the lines that it printed.

@@ -1,7 +1,7 @@
 //! A run that is made step by step, with its possible events at hand.
 
 ghost use Rattle.std.specs.Prelude.{◌≡◌, length, IfOk, OnOk};
-ghost use Rattle.dds_world.specs.Trace.{next, replies_in, start};
+ghost use Rattle.dds_cluster.specs.Trace.{next, replies_in, start};
 ghost use Rattle.dds_walk.specs.Picking.{events, ranked};
 
 use crate::picking::event_of;
@@ -10,10 +10,10 @@ use dds_agenda::agenda::Agenda;
 use dds_base::memory::Memory;
 use dds_script::opening::Opening;
 use dds_states::turn::ReplyList;
-use dds_world::opening_world::start;
-use dds_world::run::next;
-use dds_world::step::Step;
-use dds_world::trace::Trace;
+use dds_cluster::opening_world::start;
+use dds_cluster::run::next;
+use dds_cluster::step::Step;
+use dds_cluster::trace::Trace;
 use std::alloc::Global;
 use std::marker::Model;
 
@@ -29,8 +29,8 @@ pub struct Run {
 impl Model for Run {
     ghost use Rattle.dds_agenda.specs.Agenda.{AreSame};
     ghost use Rattle.dds_walk.specs.Agenda.{Unless, entries};
-    ghost use Rattle.dds_world.specs.declared.trace.Trace.{Trace};
-    ghost use Rattle.dds_world.specs.contracts.trace.Trace as traced;
+    ghost use Rattle.dds_cluster.specs.declared.trace.Trace.{Trace};
+    ghost use Rattle.dds_cluster.specs.contracts.trace.Trace as traced;
 
     ghost Value = { Trace };
 

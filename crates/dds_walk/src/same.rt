@@ -8,8 +8,8 @@ use dds_base::number::{CallNo, CallerNo, NodeNo};
 use dds_base::op::Order;
 use dds_groups::order::same_name;
 use dds_transcript::report_line::OrderKind;
-use dds_world::queue::Queue;
-use dds_world::step::{Input, Step};
+use dds_cluster::queue::Queue;
+use dds_cluster::step::{Input, Step};
 
 /// The kind of an order.
 pub fn kind_of(order: &Order) -> OrderKind

@@ -2,7 +2,7 @@
 
 ghost use Rattle.std.specs.Prelude.{◌≡◌, ◌++◌, option_copied, OnOk};
 ghost use Rattle.dds_trie.specs.Trie.{leaves_of};
-ghost use Rattle.dds_world.specs.World.{brick_at};
+ghost use Rattle.dds_cluster.specs.World.{brick_at};
 ghost use Rattle.dds_walk.specs.Walk.{leaf_line, leaf_lines, show_line, show_lines};
 
 use crate::walk::Walk;

@@ -2,15 +2,15 @@
 
 ghost use Rattle.std.specs.Prelude.{◌≡◌, option_copied};
 ghost use Rattle.dds_agenda.specs.declared.entry.Slot.TheVariants.{Outbox};
-ghost use Rattle.dds_world.specs.World.{place};
+ghost use Rattle.dds_cluster.specs.World.{place};
 ghost use Rattle.dds_walk.specs.Agenda.{entry_at, entry_of, entry_on, link_of, link_to};
 ghost use Rattle.dds_walk.specs.Walk.{node_of};
 
 use crate::same::node_of;
 use dds_agenda::entry::{Entry, Slot};
 use dds_base::number::NodeNo;
-use dds_world::cluster::Cluster;
-use dds_world::step::{Message, Step};
+use dds_cluster::cluster::Cluster;
+use dds_cluster::step::{Message, Step};
 
 /// The outbox whose first letter a step may change, and the link, by the places of its ends.
 pub fn touched(world: &Cluster, step: &Step) -> (Slot, Option<(usize, usize)>)

@@ -1,8 +1,10 @@
-pub mod World
-pub mod Turn
-pub mod Trace
+pub mod Places
 pub mod Stands
+pub mod Treated
 pub mod Causes
-pub mod Reached
+pub mod Quiet
+pub mod Notices
 pub mod Refusals
-pub mod Framed
+pub mod Outcomes
+pub mod Groups
+pub mod Values

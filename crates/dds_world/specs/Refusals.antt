@@ -1,5 +1,5 @@
--- The ninth fact of each world that a run reaches: each refusal was true.
-use Rattle.std.specs.Prelude.{ℕ, ◌≡◌, List, Option, Some, None, is_some, slice_get, take}
+-- Each refusal was true at the step that made it. Proved of every run.
+use Rattle.std.specs.Prelude.{ℕ, ◌≡◌, ◌⊎◌, List, Option, Some, None, is_some, slice_get, take}
 use Rattle.std.specs.FinMap.{get}
 use Rattle.dds_base.specs.Name.{Name}
 use Rattle.dds_base.specs.Number.{Txn, StampOf}
@@ -30,17 +30,17 @@ use Rattle.dds_order_rows.specs.OwnOrder.{met_of}
 use Rattle.dds_script.specs.Opening.{OpeningOf}
 use Rattle.dds_states.specs.Turn.{first_some, when}
 use Rattle.dds_states.specs.declared.brick_state.BrickState.{BrickState}
+use Rattle.dds_states.specs.declared.brick_state.OpenOrder.{OpenOrder}
 use Rattle.dds_states.specs.declared.library_state.LibraryState.{LibraryState}
 use Rattle.dds_states.specs.declared.library_state.OpenCall.{OpenCall}
 use Rattle.dds_states.specs.declared.library_state.Phase.TheVariants as phase
 use Rattle.dds_states.specs.declared.turn.Replied.TheVariants as replied
-use Rattle.dds_world.specs.Causes.{world_at, Handles}
-use Rattle.dds_world.specs.Reached.{Travels, after}
-use Rattle.dds_world.specs.Trace.{replies_in, run_of}
-use Rattle.dds_world.specs.World.{brick_at, library_at}
-use Rattle.dds_world.specs.declared.step.Input.TheVariants as input
-use Rattle.dds_world.specs.declared.step.Step.{Step}
-use Rattle.dds_world.specs.declared.step.Step.TheVariants as step
+use Rattle.dds_world.specs.Places.{reached, world_at, Travels, Handles}
+use Rattle.dds_cluster.specs.Trace.{replies_in, run_of}
+use Rattle.dds_cluster.specs.World.{brick_at, library_at}
+use Rattle.dds_cluster.specs.declared.step.Input.TheVariants as input
+use Rattle.dds_cluster.specs.declared.step.Step.{Step}
+use Rattle.dds_cluster.specs.declared.step.Step.TheVariants as step
 
 -- at some place of the run the brick took this letter in this state
 pub record TookBefore (o : OpeningOf) (journal : List Step) (brick : NodeNo) (l : Letter) (s : BrickState) : Type 0 where
@@ -81,10 +81,28 @@ pub record LeaseWasRefused (o : OpeningOf) (journal : List Step) (brick asker : 
   pub sender : took.handles.from ≡ asker
   pub true_then : lease_was_refused state what ≡ Some why
 
--- a brick refused an attempt of a call so
-pub data CallWasRefused : OpeningOf → List Step → ℕ → CallNo → Met → Type 0 where
-  of_get : (o : OpeningOf) (journal : List Step) (caller : ℕ) (call : CallNo) (m : Met) (brick : NodeNo) (txn : Txn) (why : Refusal) (was : GetWasRefused o journal brick txn why) → was.caller ≡ caller → was.call ≡ call → met_of why brick ≡ m → CallWasRefused o journal caller call m
-  of_update : (o : OpeningOf) (journal : List Step) (caller : ℕ) (call : CallNo) (m : Met) (brick : NodeNo) (txn : Txn) (why : Refusal) (was : UpdateWasDenied o journal brick txn (denial.Refused why)) → was.caller ≡ caller → was.call ≡ call → met_of why brick ≡ m → CallWasRefused o journal caller call m
+-- a brick refused a get or an update of a call for what it met
+pub record GetOfCallWasRefused (o : OpeningOf) (journal : List Step) (caller : ℕ) (call : CallNo) (m : Met) : Type 0 where
+  pub brick : NodeNo
+  pub txn : Txn
+  pub why : Refusal
+  pub was : GetWasRefused o journal brick txn why
+  pub caller_is : was.caller ≡ caller
+  pub call_is : was.call ≡ call
+  pub met : met_of why brick ≡ m
+
+pub record UpdateOfCallWasRefused (o : OpeningOf) (journal : List Step) (caller : ℕ) (call : CallNo) (m : Met) : Type 0 where
+  pub brick : NodeNo
+  pub txn : Txn
+  pub why : Refusal
+  pub was : UpdateWasDenied o journal brick txn (denial.Refused why)
+  pub caller_is : was.caller ≡ caller
+  pub call_is : was.call ≡ call
+  pub met : met_of why brick ≡ m
+
+abbrev pub CallWasRefused : OpeningOf → List Step → ℕ → CallNo → Met → Type 0
+CallWasRefused o journal caller call m =
+    GetOfCallWasRefused o journal caller call m ⊎ UpdateOfCallWasRefused o journal caller call m
 
 -- what a call keeps that looks for a newer map: a brick refused it for that; that a brick stopped is no refusal
 abbrev pub WasMet : OpeningOf → List Step → ℕ → CallNo → Met → Type 0
@@ -98,16 +116,64 @@ abbrev pub split_refusal : BrickState → Name → Option Refusal
 split_refusal s name =
     first_some (when (is_some (leased s.locks.leases name)) refusal.Lease) (when (any_under s.locks.pending name) refusal.Lock)
 
--- the step at a place answers an order with what it met: a member refused the lease, or, of a split, its own brick did
-pub data OrderWasRefused : OpeningOf → List Step → ℕ → Met → Type 0 where
-  by_member : (o : OpeningOf) (journal : List Step) (at : ℕ) (m : Met) (node brick : NodeNo) (number : ℕ) (why : Refusal) → slice_get journal at ≡ Some (step.Handle node brick) → LeaseWasRefused o journal brick node number why → met_of why brick ≡ m → OrderWasRefused o journal at m
-  by_itself : (o : OpeningOf) (journal : List Step) (at : ℕ) (m : Met) (node : NodeNo) (s : BrickState) (name : Name) (leaf : Leaf) (why : Refusal) → slice_get journal at ≡ Some (step.Input node (input.Order (order.Split node name))) → brick_at (world_at o journal at) node ≡ Some s → get s.leaves name ≡ Some leaf → split_refusal s leaf.name ≡ Some why → met_of why node ≡ m → OrderWasRefused o journal at m
+-- the step at a place answers the brick's open order, whose request a member refused
+pub record MemberRefused (o : OpeningOf) (journal : List Step) (at : ℕ) (m : Met) : Type 0 where
+  pub node : NodeNo
+  pub brick : NodeNo
+  pub state : BrickState
+  pub open_order : OpenOrder
+  pub why : Refusal
+  pub step : slice_get journal at ≡ Some (step.Handle node brick)
+  pub there : brick_at (world_at o journal at) node ≡ Some state
+  pub is_open : state.order ≡ Some open_order
+  pub was : LeaseWasRefused o journal brick node open_order.number why
+  pub met : met_of why brick ≡ m
+
+-- the step at a place orders a split that the brick itself refuses
+pub record BrickRefused (o : OpeningOf) (journal : List Step) (at : ℕ) (m : Met) : Type 0 where
+  pub node : NodeNo
+  pub state : BrickState
+  pub name : Name
+  pub leaf : Leaf
+  pub why : Refusal
+  pub step : slice_get journal at ≡ Some (step.Input node (input.Order (order.Split node name)))
+  pub there : brick_at (world_at o journal at) node ≡ Some state
+  pub own : get state.leaves name ≡ Some leaf
+  pub true_then : split_refusal state leaf.name ≡ Some why
+  pub met : met_of why node ≡ m
+
+-- the step at a place answers an order with what it met: a member refused it, or, of a split, its own brick did
+abbrev pub OrderWasRefused : OpeningOf → List Step → ℕ → Met → Type 0
+OrderWasRefused o journal at m = MemberRefused o journal at m ⊎ BrickRefused o journal at m
 
 -- each refusal in a letter, kept by a library or given by an order was true at the step that made it
 pub record RefusalsWereTrue (o : OpeningOf) (journal : List Step) : Type 0 where
-  pub gets : (from to : NodeNo) (txn : Txn) (why : Refusal) → Travels (after o journal).world from to (letter.Got txn (answer.Refused why)) → GetWasRefused o journal from txn why
-  pub updates : (from to : NodeNo) (txn : Txn) (why : Denial) → Travels (after o journal).world from to (letter.Vote txn (ballot.No why)) → UpdateWasDenied o journal from txn why
-  pub leases : (from to : NodeNo) (number : ℕ) (why : Refusal) → Travels (after o journal).world from to (letter.LeaseRefused number why) → LeaseWasRefused o journal from to number why
-  pub kept : (node brick : NodeNo) (s : LibraryState) (at : ℕ) (c : OpenCall) (waiting : List NodeNo) (why : Denial) → library_at (after o journal).world node ≡ Some s → slice_get s.calls at ≡ Some c → c.phase ≡ phase.Aborting waiting why brick → UpdateWasDenied o journal brick c.txn why
-  pub asking : (node : NodeNo) (s : LibraryState) (at : ℕ) (c : OpenCall) (waiting : List NodeNo) (newest : Option Leaf) (m : Met) → library_at (after o journal).world node ≡ Some s → slice_get s.calls at ≡ Some c → c.phase ≡ phase.Asking waiting newest m → WasMet o journal c.request.caller c.request.call m
-  pub orders : (at place : ℕ) (s : Step) (m : Met) → slice_get journal at ≡ Some s → slice_get (replies_in (run_of o (take at journal)) s) place ≡ Some (replied.Order (answered.Refused m)) → OrderWasRefused o journal at m
+  pub gets :
+      (from to : NodeNo) (txn : Txn) (why : Refusal) →
+      Travels (reached o journal) from to (letter.Got txn (answer.Refused why)) →
+      GetWasRefused o journal from txn why
+  pub updates :
+      (from to : NodeNo) (txn : Txn) (why : Denial) →
+      Travels (reached o journal) from to (letter.Vote txn (ballot.No why)) →
+      UpdateWasDenied o journal from txn why
+  pub leases :
+      (from to : NodeNo) (number : ℕ) (why : Refusal) →
+      Travels (reached o journal) from to (letter.LeaseRefused number why) →
+      LeaseWasRefused o journal from to number why
+  pub kept :
+      (node brick : NodeNo) (s : LibraryState) (at : ℕ) (c : OpenCall) (waiting : List NodeNo) (why : Denial) →
+      library_at (reached o journal) node ≡ Some s →
+      slice_get s.calls at ≡ Some c →
+      c.phase ≡ phase.Aborting waiting why brick →
+      UpdateWasDenied o journal brick c.txn why
+  pub asking :
+      (node : NodeNo) (s : LibraryState) (at : ℕ) (c : OpenCall) (waiting : List NodeNo) (newest : Option Leaf) (m : Met) →
+      library_at (reached o journal) node ≡ Some s →
+      slice_get s.calls at ≡ Some c →
+      c.phase ≡ phase.Asking waiting newest m →
+      WasMet o journal c.request.caller c.request.call m
+  pub orders :
+      (at place : ℕ) (s : Step) (m : Met) →
+      slice_get journal at ≡ Some s →
+      slice_get (replies_in (run_of o (take at journal)) s) place ≡ Some (replied.Order (answered.Refused m)) →
+      OrderWasRefused o journal at m

@@ -1,5 +1,5 @@
 -- What the headline says of a run: its calls stand in one legal history.
-use Rattle.std.specs.Prelude.{ℕ, ◌+◌, ◌<◌, ◌≡◌, ◌⊎◌, Bool, true, false, not, ◌&&◌, ◌||◌, ◌==◌, List, [], ◌∷◌, Option, Some, None, map, filter, IsTrue, if◌then◌else◌}
+use Rattle.std.specs.Prelude.{ℕ, ◌+◌, ◌<◌, ◌≡◌, ◌⊎◌, Bool, true, false, not, ◌&&◌, ◌||◌, ◌==◌, List, [], ◌∷◌, Option, Some, None, map, filter, if◌then◌else◌}
 use Rattle.std.specs.List.{list_any, AllByRecursion}
 use Rattle.dds_base.specs.Number.{Txn, same_txn}
 use Rattle.dds_base.specs.Op.{is_get}
@@ -9,14 +9,19 @@ use Rattle.dds_base.specs.declared.op.Reply.TheVariants as reply
 use Rattle.dds_history.specs.History.{IsLegal}
 use Rattle.dds_history.specs.declared.entry.Entry.{Entry}
 use Rattle.dds_world.specs.declared.runs.CallPlace.{CallPlace}
-use Rattle.dds_world.specs.declared.trace.Asked.{Asked}
-use Rattle.dds_world.specs.declared.trace.Made.{Made}
-use Rattle.dds_world.specs.declared.trace.Told.{Told}
-use Rattle.dds_world.specs.declared.trace.Trace.{Trace}
+use Rattle.dds_cluster.specs.declared.trace.Asked.{Asked}
+use Rattle.dds_cluster.specs.declared.trace.Made.{Made}
+use Rattle.dds_cluster.specs.declared.trace.Told.{Told}
+use Rattle.dds_cluster.specs.declared.trace.Trace.{Trace}
+
+-- an answer is what this attempt read
+abbrev pub is_read_of : Txn → Option Txn → Bool
+is_read_of txn None = false
+is_read_of txn (Some read) = same_txn read txn
 
 -- a read's attempt answered its call
 abbrev pub is_answer : List Told → Txn → Bool
-is_answer told txn = list_any (λ r. same_txn r.txn txn) told
+is_answer told txn = list_any (λ r. is_read_of txn r.read) told
 
 -- a point stands in the history: each first applied point, and each read whose answer the call was given
 abbrev pub stands_in : List Told → Made → Bool
@@ -41,7 +46,8 @@ answer_to (r ∷ rs) caller call = if answers caller call r then Some r else ans
 
 abbrev pub placed_call : Asked → Option Told → CallPlace
 placed_call a None = record { caller = a.caller; call = a.call; asked = a.place; answered = None; reply = None }
-placed_call a (Some r) = record { caller = a.caller; call = a.call; asked = a.place; answered = Some r.place; reply = Some r.reply }
+placed_call a (Some r) =
+    record { caller = a.caller; call = a.call; asked = a.place; answered = Some r.place; reply = Some r.reply }
 
 -- the calls of a run in the order of their Inputs, with the place of the Input, and of the answer
 abbrev pub calls : Trace → List CallPlace
@@ -65,54 +71,47 @@ AtMostOneAfter at [] = Unit {0}
 AtMostOneAfter at (m ∷ []) = at < m.place
 AtMostOneAfter at (m ∷ n ∷ ms) = ⊥
 
--- what an answer says of its call's entries: a result stands there once, a refusal never, a lost update once or never
-abbrev pub ResultHasOneEntry : List Made → Asked → Told → Reply → Type 0
-ResultHasOneEntry entries a told (reply.Value value) = HasOneEntry entries a told
-ResultHasOneEntry entries a told reply.Absent = HasOneEntry entries a told
-ResultHasOneEntry entries a told (reply.Done was) = HasOneEntry entries a told
-ResultHasOneEntry entries a told (reply.Swapped done) = HasOneEntry entries a told
-ResultHasOneEntry entries a told (reply.Again met) = Unit {0}
-ResultHasOneEntry entries a told (reply.Full brick) = Unit {0}
-ResultHasOneEntry entries a told (reply.Lost name) = Unit {0}
+-- an answer is a result: the call was done
+abbrev pub is_result : Reply → Bool
+is_result (reply.Value value) = true
+is_result reply.Absent = true
+is_result (reply.Done was) = true
+is_result (reply.Swapped done) = true
+is_result (reply.Again met) = false
+is_result (reply.Full brick) = false
+is_result (reply.Lost name) = false
 
-abbrev pub RefusalHasNone : List Made → Asked → Reply → Type 0
-RefusalHasNone entries a (reply.Value value) = Unit {0}
-RefusalHasNone entries a reply.Absent = Unit {0}
-RefusalHasNone entries a (reply.Done was) = Unit {0}
-RefusalHasNone entries a (reply.Swapped done) = Unit {0}
-RefusalHasNone entries a (reply.Again met) = entries_of entries a ≡ []
-RefusalHasNone entries a (reply.Full brick) = entries_of entries a ≡ []
-RefusalHasNone entries a (reply.Lost name) = Unit {0}
+-- an answer is a refusal: nothing was done
+abbrev pub is_refusal : Reply → Bool
+is_refusal (reply.Value value) = false
+is_refusal reply.Absent = false
+is_refusal (reply.Done was) = false
+is_refusal (reply.Swapped done) = false
+is_refusal (reply.Again met) = true
+is_refusal (reply.Full brick) = true
+is_refusal (reply.Lost name) = false
 
-abbrev pub LostHasAtMostOne : List Made → Asked → Reply → Type 0
-LostHasAtMostOne entries a (reply.Value value) = Unit {0}
-LostHasAtMostOne entries a reply.Absent = Unit {0}
-LostHasAtMostOne entries a (reply.Done was) = Unit {0}
-LostHasAtMostOne entries a (reply.Swapped done) = Unit {0}
-LostHasAtMostOne entries a (reply.Again met) = Unit {0}
-LostHasAtMostOne entries a (reply.Full brick) = Unit {0}
-LostHasAtMostOne entries a (reply.Lost name) = AtMostOneAfter a.place (entries_of entries a)
-
--- of a call that was answered with a result
+-- a call that was answered with a result has exactly one entry
 abbrev pub AnsweredOnceBy : List Made → Asked → Option Told → Type 0
 AnsweredOnceBy entries a None = Unit {0}
-AnsweredOnceBy entries a (Some told) = ResultHasOneEntry entries a told told.reply
+AnsweredOnceBy entries a (Some told) = is_result told.reply ≡ true → HasOneEntry entries a told
 
 abbrev pub AnsweredOnce : List Told → List Made → Asked → Type 0
 AnsweredOnce told entries a = AnsweredOnceBy entries a (answer_to told a.caller a.call)
 
--- a call that was answered Again or Full has no entry, and an open get has none
+-- a call that was refused has no entry, and an open get has none
 abbrev pub RefusedNeverBy : List Made → Asked → Option Told → Type 0
-RefusedNeverBy entries a None = IsTrue (is_get a.op) → entries_of entries a ≡ []
-RefusedNeverBy entries a (Some told) = RefusalHasNone entries a told.reply
+RefusedNeverBy entries a None = is_get a.op ≡ true → entries_of entries a ≡ []
+RefusedNeverBy entries a (Some told) = is_refusal told.reply ≡ true → entries_of entries a ≡ []
 
 abbrev pub RefusedNever : List Told → List Made → Asked → Type 0
 RefusedNever told entries a = RefusedNeverBy entries a (answer_to told a.caller a.call)
 
--- an update that is open or was answered Lost has at most one entry, behind its Input
+-- an update that is open, and a call that was answered with no result (by Lost, since a refused one has none), has at
+-- most one entry, behind its Input
 abbrev pub UnansweredOnceOrNeverBy : List Made → Asked → Option Told → Type 0
 UnansweredOnceOrNeverBy entries a None = is_get a.op ≡ false → AtMostOneAfter a.place (entries_of entries a)
-UnansweredOnceOrNeverBy entries a (Some told) = LostHasAtMostOne entries a told.reply
+UnansweredOnceOrNeverBy entries a (Some told) = is_result told.reply ≡ false → AtMostOneAfter a.place (entries_of entries a)
 
 abbrev pub UnansweredOnceOrNever : List Told → List Made → Asked → Type 0
 UnansweredOnceOrNever told entries a = UnansweredOnceOrNeverBy entries a (answer_to told a.caller a.call)
@@ -120,10 +119,12 @@ UnansweredOnceOrNever told entries a = UnansweredOnceOrNeverBy entries a (answer
 -- an entry belongs to one of the calls, and has its operation
 abbrev pub IsOfACall : List Asked → Made → Type 0
 IsOfACall [] m = ⊥
-IsOfACall (a ∷ rest) m = ((m.entry.caller ≡ a.caller) × (m.entry.call ≡ a.call) × (m.entry.op ≡ a.op)) ⊎ IsOfACall rest m
+IsOfACall (a ∷ rest) m =
+    ((m.entry.caller ≡ a.caller) × (m.entry.call ≡ a.call) × (m.entry.op ≡ a.op)) ⊎ IsOfACall rest m
 
 -- all calls answered with a result stand in one legal history of one map, each once, between its Input and its answer;
--- refused calls don't stand there; an unanswered update stands there once or never; and nothing else does
+-- refused calls don't stand there; an unanswered update stands there once or never; and nothing else does. Proved of runs of
+-- the first opening without stops and orders alone.
 pub record Stands (t : Trace) : Type 0 where
   pub legal : IsLegal (history t)
   pub answered_once : AllByRecursion (AnsweredOnce t.told (placed_history t)) t.asked

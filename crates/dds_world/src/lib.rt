@@ -1,16 +1,5 @@
-//! The cluster as a value: its worlds, its steps, and its runs with their histories.
+//! What is claimed of the cluster's runs: their histories, their calls, why calls are refused, and the facts of each
+//! world that a run reaches.
 #![tactic(auto)]
 
-pub mod cluster;
-pub mod framed;
-pub mod links;
-pub mod opening_world;
-pub mod points;
-pub mod possible;
-pub mod queue;
-pub mod run;
 pub mod runs;
-pub mod step;
-pub mod stopping;
-pub mod trace;
-pub mod turn;

@@ -1,18 +1,18 @@
 //! What a journal is: a run or not, its history, and its calls.
 
 ghost use Rattle.std.specs.Prelude.{◌≡◌, map, filter, option_copied, IfOk};
-ghost use Rattle.dds_world.specs.Trace.{is_run, run_of};
-ghost use Rattle.dds_world.specs.Stands.{answer_to, calls, history, is_answer, placed_call, stands_in};
+ghost use Rattle.dds_cluster.specs.Trace.{is_run, run_of};
+ghost use Rattle.dds_world.specs.Stands.{answer_to, calls, history, is_answer, is_read_of, placed_call, stands_in};
 
-use crate::opening_world::start;
-use crate::possible::is_possible;
-use crate::run::next;
-use crate::step::{Journal, Step};
-use crate::trace::{Asked, Made, Told, Trace};
 use dds_base::items::Items;
 use dds_base::memory::Memory;
 use dds_base::number::{CallNo, CallerNo, TxnNo};
 use dds_base::op::Reply;
+use dds_cluster::opening_world::start;
+use dds_cluster::possible::is_possible;
+use dds_cluster::run::next;
+use dds_cluster::step::{Journal, Step};
+use dds_cluster::trace::{Asked, Made, Told, Trace};
 use dds_history::entry::Entry;
 use dds_script::opening::Opening;
 use std::alloc::Global;
@@ -82,10 +82,21 @@ pub fn stands_in(told: &[Told], made: &Made) -> bool
     !made.entry.op.is_get() || is_answer(told, made.txn)
 }
 
+/// Whether the read of an attempt answered its call.
 fn is_answer(told: &[Told], txn: TxnNo) -> bool
     ensures { result ≡ is_answer told.now txn }
 {
-    told.iter().any(|t| t.txn == txn)
+    told.iter().any(|t| is_read_of(txn, t.read))
+}
+
+/// Whether an answer is what this attempt read.
+fn is_read_of(txn: TxnNo, read: Option<TxnNo>) -> bool
+    ensures { result ≡ is_read_of txn read }
+{
+    match read {
+        None => false,
+        Some(read) => read == txn,
+    }
 }
 
 /// The calls of the journal, a run or not, in the order of their inputs.

@@ -1,4 +1,4 @@
-use Rattle.dds_world.specs.Trace.{start}
+use Rattle.dds_cluster.specs.Trace.{start}
 use Rattle.dds_law_notice.proofs.Facts.{notices-last}
 use Rattle.dds_law_notice.proofs.Runs.{run-keeps, start-linked}
 use Rattle.dds_law_notice.proofs.laws.notices_are_last.Goals as goal

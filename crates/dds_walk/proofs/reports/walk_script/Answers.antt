@@ -1,5 +1,5 @@
 use Rattle.dds_walk.proofs.Once.{lines-once, run-once, steps-once, walked-once}
-use Rattle.dds_world.specs.declared.step.TheConstants.{EVENTS}
+use Rattle.dds_cluster.specs.declared.step.TheConstants.{EVENTS}
 use Rattle.dds_walk.proofs.reports.walk_script.Goals as goal
 
 pub returns-clause-journal : goal.returns-clause-journal

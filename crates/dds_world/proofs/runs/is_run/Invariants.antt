@@ -1,5 +1,5 @@
 use Rattle.std.proofs.Common.{◌≡◌, drop}
-use Rattle.dds_world.specs.Trace.{is_run_from, is_run}
+use Rattle.dds_cluster.specs.Trace.{is_run_from, is_run}
 use Rattle.dds_world.proofs.runs.is_run.Given as goal
 
 abbrev pub invariant-loop-step : goal.invariant-loop-step

@@ -5,7 +5,7 @@ use Rattle.dds_disk.specs.Pages.{Pages}
 use Rattle.dds_base.specs.Name.{Name, covers}
 use Rattle.dds_chains.specs.Content.{Map}
 use Rattle.dds_table.specs.Store.{named, place_named, maps_of, map_named}
-use Rattle.dds_chains.specs.declared.table.Table.{Table}
+use Rattle.dds_chains.specs.declared.table.Chains.{Chains}
 use Rattle.dds_table.proofs.Stores.{named-set, unless-false, store-reclaimed, index-at, table-at, name-at, uses-at, map-at, changed-named, room-named, store-after, holds-after}
 use Rattle.dds_table.proofs.TablePlaces.{placed-kept}
 use Rattle.dds_table.proofs.Refusing.{refused-at, slots-stay}
@@ -23,7 +23,7 @@ bind-requires-clause-index g c =
 
 pub bind-requires-clause-covers : goal.bind-requires-clause-covers
 bind-requires-clause-covers g c =
-    let p : place_named (named c.self.inside.tables.items) c.args.name ≡ Some c.place_in-place.result = ap (λ (ts : List Table). place_named (named ts) c.args.name) (sym c.as_slice.ensures.value) ∙ c.place_in-place.ensures.value in
+    let p : place_named (named c.self.inside.tables.items) c.args.name ≡ Some c.place_in-place.result = ap (λ (ts : List Chains). place_named (named ts) c.args.name) (sym c.as_slice.ensures.value) ∙ c.place_in-place.ensures.value in
     subst (λ (n : Name). IsTrue (covers n c.args.key)) (sym (name-at c.self.inside.tables.items c.args.name c.place_in-place.result c.index_mut.result.now p c.index_mut.ensures.value)) c.requires.covers
 
 pub bind-requires-clause-single : goal.bind-requires-clause-single
@@ -52,7 +52,7 @@ invariant_of-self-2 g c =
     let s = store-reclaimed (g.D.Disk.pages c.reclaim.new.space.cache.disk) c.reclaim.new.space.free.items c.reclaim.new.space.fresh c.reclaim.new.dropped.items (vec_capacity c.reclaim.new.dropped) s0 same c.in_ok-reclaim.ensures.number c.in_ok-reclaim.ensures.shorter c.in_ok-reclaim.ensures.capacity in
     let l = ap length c.as_slice.ensures.value in
     let below : c.place_in-place.result < length c.self.inside.tables.items = omega (arith, l, c.place_in-place.ensures.within) in
-    let p : place_named (named c.self.inside.tables.items) c.args.name ≡ Some c.place_in-place.result = ap (λ (ts : List Table). place_named (named ts) c.args.name) (sym c.as_slice.ensures.value) ∙ c.place_in-place.ensures.value in
+    let p : place_named (named c.self.inside.tables.items) c.args.name ≡ Some c.place_in-place.result = ap (λ (ts : List Chains). place_named (named ts) c.args.name) (sym c.as_slice.ensures.value) ∙ c.place_in-place.ensures.value in
     let room : (a : Pages) → g.D.Disk.pages c.self.inside.space.cache.disk ≡ Some a → contains_key (map_named (maps_of a (named c.self.inside.tables.items)) c.args.name) c.args.key ≡ false → size (map_named (maps_of a (named c.self.inside.tables.items)) c.args.name) < 16384 = subst (λ s. (a : Pages) → g.D.Disk.pages s.cache.disk ≡ Some a → contains_key (map_named (maps_of a s.tables) c.args.name) c.args.key ≡ false → size (map_named (maps_of a s.tables) c.args.name) < 16384) (sym c.self.view_is) c.requires.room in
     let x = index-at c.self.inside.tables.items c.place_in-place.result c.index_mut.result.now s.index below c.index_mut.ensures.value in (
       store-after _ _ _ _ _ _ c.self.inside.tables.items _ c.args.name c.place_in-place.result c.index_mut.result.now c.bind.new.table (λ a. insert (map_named (maps_of a (named c.self.inside.tables.items)) c.args.name) c.args.key c.args.value.now) s below c.index_mut.ensures.value p refl c.in-Ok.ensures.name c.in-Ok.ensures.index c.in-Ok.ensures.number
@@ -69,7 +69,7 @@ returns-clause-told g c = λ a is.
     let told : g.D.Disk.pages c.reclaim.new.space.cache.disk ≡ Some a = same ∙ ap (λ s. g.D.Disk.pages s.cache.disk) c.self.view_is ∙ is in
     let l = ap length c.as_slice.ensures.value in
     let below : c.place_in-place.result < length c.self.inside.tables.items = omega (arith, l, c.place_in-place.ensures.within) in
-    let p : place_named (named c.self.inside.tables.items) c.args.name ≡ Some c.place_in-place.result = ap (λ (ts : List Table). place_named (named ts) c.args.name) (sym c.as_slice.ensures.value) ∙ c.place_in-place.ensures.value in
+    let p : place_named (named c.self.inside.tables.items) c.args.name ≡ Some c.place_in-place.result = ap (λ (ts : List Chains). place_named (named ts) c.args.name) (sym c.as_slice.ensures.value) ∙ c.place_in-place.ensures.value in
     let room : (a : Pages) → g.D.Disk.pages c.self.inside.space.cache.disk ≡ Some a → contains_key (map_named (maps_of a (named c.self.inside.tables.items)) c.args.name) c.args.key ≡ false → size (map_named (maps_of a (named c.self.inside.tables.items)) c.args.name) < 16384 = subst (λ s. (a : Pages) → g.D.Disk.pages s.cache.disk ≡ Some a → contains_key (map_named (maps_of a s.tables) c.args.name) c.args.key ≡ false → size (map_named (maps_of a s.tables) c.args.name) < 16384) (sym c.self.view_is) c.requires.room in
     let x = index-at c.self.inside.tables.items c.place_in-place.result c.index_mut.result.now s.index below c.index_mut.ensures.value in
     let tab = table-at a c.self.inside.tables.items c.place_in-place.result c.index_mut.result.now (s.stored a told) below c.index_mut.ensures.value in
@@ -83,7 +83,7 @@ returns-clause-was g c = λ a is.
     let s = store-reclaimed (g.D.Disk.pages c.reclaim.new.space.cache.disk) c.reclaim.new.space.free.items c.reclaim.new.space.fresh c.reclaim.new.dropped.items (vec_capacity c.reclaim.new.dropped) s0 same c.in_ok-reclaim.ensures.number c.in_ok-reclaim.ensures.shorter c.in_ok-reclaim.ensures.capacity in
     let told : g.D.Disk.pages c.reclaim.new.space.cache.disk ≡ Some a = same ∙ ap (λ s. g.D.Disk.pages s.cache.disk) c.self.view_is ∙ is in
     let l = ap length c.as_slice.ensures.value in
-    let p : place_named (named c.self.inside.tables.items) c.args.name ≡ Some c.place_in-place.result = ap (λ (ts : List Table). place_named (named ts) c.args.name) (sym c.as_slice.ensures.value) ∙ c.place_in-place.ensures.value in
+    let p : place_named (named c.self.inside.tables.items) c.args.name ≡ Some c.place_in-place.result = ap (λ (ts : List Chains). place_named (named ts) c.args.name) (sym c.as_slice.ensures.value) ∙ c.place_in-place.ensures.value in
     let tab = table-at a c.self.inside.tables.items c.place_in-place.result c.index_mut.result.now (s.stored a told) (omega (arith, l, c.place_in-place.ensures.within)) c.index_mut.ensures.value in
     c.in-Ok.ensures.was a told tab ∙ ap (λ (m : Map). contains_key m c.args.key) (sym (map-at a c.self.inside.tables.items c.args.name c.place_in-place.result c.index_mut.result.now p c.index_mut.ensures.value))
     ∙ ap (λ s. contains_key (map_named (maps_of a s.tables) c.args.name) c.args.key) c.self.view_is
@@ -105,13 +105,13 @@ returns-in-Err-clause-stays g c =
 
 pub returns-clause-known : goal.returns-clause-known
 returns-clause-known g c =
-    let p : place_named (named c.self.inside.tables.items) c.args.name ≡ Some c.place_in-place.result = ap (λ (ts : List Table). place_named (named ts) c.args.name) (sym c.as_slice.ensures.value) ∙ c.place_in-place.ensures.value in
+    let p : place_named (named c.self.inside.tables.items) c.args.name ≡ Some c.place_in-place.result = ap (λ (ts : List Chains). place_named (named ts) c.args.name) (sym c.as_slice.ensures.value) ∙ c.place_in-place.ensures.value in
     rw (← c.self.view_is) (c.in-Ok.ensures.known ∙ knows-at c.self.inside.tables.items c.args.name c.place_in-place.result c.index_mut.result.now c.args.key p c.index_mut.ensures.value)
 
 pub returns-clause-keys : goal.returns-clause-keys
 returns-clause-keys g c =
     let l = ap length c.as_slice.ensures.value in
     let below : c.place_in-place.result < length c.self.inside.tables.items = omega (arith, l, c.place_in-place.ensures.within) in
-    let p : place_named (named c.self.inside.tables.items) c.args.name ≡ Some c.place_in-place.result = ap (λ (ts : List Table). place_named (named ts) c.args.name) (sym c.as_slice.ensures.value) ∙ c.place_in-place.ensures.value in
+    let p : place_named (named c.self.inside.tables.items) c.args.name ≡ Some c.place_in-place.result = ap (λ (ts : List Chains). place_named (named ts) c.args.name) (sym c.as_slice.ensures.value) ∙ c.place_in-place.ensures.value in
     rw (← c.self.view_is) (λ q. knows-set c.self.inside.tables.items c.args.name c.place_in-place.result c.bind.new.table q p below (named-set c.self.inside.tables.items c.place_in-place.result c.index_mut.result.now _ below c.index_mut.ensures.value c.in-Ok.ensures.name c.in-Ok.ensures.root)
     ∙ c.in-Ok.ensures.keys q ∙ ap (λ (b : Bool). c.args.key == q || b) (knows-at c.self.inside.tables.items c.args.name c.place_in-place.result c.index_mut.result.now q p c.index_mut.ensures.value))

@@ -4,7 +4,7 @@ use Rattle.dds_walk.proofs.Kept.{unless-failed}
 use Rattle.dds_walk.proofs.Rank.{events-count}
 use Rattle.dds_walk.specs.Agenda.{entries}
 use Rattle.dds_walk.specs.Picking.{events}
-use Rattle.dds_world.specs.declared.trace.Trace.{Trace}
+use Rattle.dds_cluster.specs.declared.trace.Trace.{Trace}
 use Rattle.dds_walk.proofs.run.Run.events.Goals as goal
 
 pub returns : goal.returns

@@ -2,7 +2,7 @@ use Rattle.std.proofs.Common.{ap}
 use Rattle.dds_agenda.specs.Agenda.{AreSame}
 use Rattle.dds_walk.proofs.Kept.{agenda-kept, unless-failed}
 use Rattle.dds_walk.specs.Agenda.{entries}
-use Rattle.dds_world.specs.declared.trace.Trace.{Trace}
+use Rattle.dds_cluster.specs.declared.trace.Trace.{Trace}
 use Rattle.dds_walk.proofs.run.Run.next.Goals as goal
 
 pub invariant_of-self-2 : goal.invariant_of-self-2

@@ -5,7 +5,7 @@ use Rattle.dds_walk.proofs.Rank.{ranked-entry, step_for}
 use Rattle.dds_walk.specs.Agenda.{entries, event_of}
 use Rattle.dds_walk.specs.Picking.{events, ranked}
 use Rattle.dds_walk.specs.declared.picking.Event.{Event}
-use Rattle.dds_world.specs.declared.trace.Trace.{Trace}
+use Rattle.dds_cluster.specs.declared.trace.Trace.{Trace}
 use Rattle.dds_walk.proofs.run.Run.ranked.Goals as goal
 
 pub returns-in_ok-event_of-in-Some : goal.returns-in_ok-event_of-in-Some

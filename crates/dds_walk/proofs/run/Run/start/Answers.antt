@@ -2,7 +2,7 @@ use Rattle.std.proofs.Common.{◌∙◌, ap, sym}
 use Rattle.std.specs.List.{sum_by}
 use Rattle.dds_walk.proofs.Entries.{entries-none}
 use Rattle.dds_walk.specs.Agenda.{entries}
-use Rattle.dds_world.specs.declared.trace.Trace.{Trace}
+use Rattle.dds_cluster.specs.declared.trace.Trace.{Trace}
 use Rattle.dds_walk.proofs.run.Run.start.Goals as goal
 
 pub invariant_of-result : goal.invariant_of-result

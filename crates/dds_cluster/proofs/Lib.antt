@@ -1,0 +1,4 @@
+pub mod Openings
+pub mod Handling
+pub mod Frames
+pub mod Sizes

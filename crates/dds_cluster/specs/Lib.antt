@@ -1,0 +1,4 @@
+pub mod World
+pub mod Turn
+pub mod Trace
+pub mod Framed

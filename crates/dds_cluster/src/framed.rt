@@ -1,0 +1,72 @@
+//! A message on a link, whose letter is a frame of bytes. Contracts see the message.
+
+ghost use Rattle.std.specs.Prelude.{◌≡◌, IfOk};
+ghost use Rattle.dds_frames.specs.Frame.{Spells};
+ghost use Rattle.dds_cluster.specs.Framed.{letter_of};
+
+use crate::step::Message;
+use bytes::Bytes;
+use dds_base::memory::Memory;
+use dds_base::number::NodeNo;
+use dds_frames::decode::decode;
+use dds_frames::encode::encode;
+use std::alloc::Global;
+use std::marker::Model;
+
+/// A message as it travels.
+#[derive(Drop)]
+pub struct Framed {
+    number: u64,
+    to: NodeNo,
+    frame: Bytes,
+}
+
+impl Model for Framed {
+    ghost use Rattle.dds_frames.specs.Frame.{Spells};
+    ghost use Rattle.dds_cluster.specs.Framed.{letter_of};
+    ghost use Rattle.dds_cluster.specs.declared.step.Message.{Message};
+    ghost use Rattle.dds_cluster.specs.contracts.step.Message as message;
+
+    ghost Value = { Message };
+
+    ghost coded = { message.the_row.coded };
+
+    ghost view = { λ a. record { number = a.number; to = a.to; letter = letter_of a.frame } };
+
+    ghost invariant = { λ a. Spells a.frame (letter_of a.frame) };
+}
+
+impl Framed {
+    /// Writes the message's letter as a frame.
+    pub fn of(alloc: Global, message: Message) -> Result<Framed, Memory>
+        ensures { IfOk result (λ framed. framed ≡ message) }
+    {
+        let frame = encode(alloc, &message.letter)?;
+        Ok(Framed {
+            number: message.number,
+            to: message.to,
+            frame,
+        })
+    }
+
+    /// The number of the message's letter.
+    pub fn number(&self) -> u64
+        ensures { result ≡ self.now.number }
+    {
+        self.number
+    }
+
+    /// Reads the frame's letter.
+    pub fn message(self, alloc: Global) -> Result<Message, Memory>
+        ensures { IfOk result (λ message. message ≡ self) }
+    {
+        match decode(alloc, self.frame.as_slice()) {
+            Ok((letter, _)) => Ok(Message {
+                number: self.number,
+                to: self.to,
+                letter,
+            }),
+            Err(_) => Err(Memory),
+        }
+    }
+}

@@ -1,0 +1,15 @@
+//! The cluster as a value: its worlds, its steps, and what is kept of a run.
+#![tactic(auto)]
+
+pub mod cluster;
+pub mod framed;
+pub mod links;
+pub mod opening_world;
+pub mod points;
+pub mod possible;
+pub mod queue;
+pub mod run;
+pub mod step;
+pub mod stopping;
+pub mod trace;
+pub mod turn;

@@ -1,6 +1,0 @@
-use Rattle.std.proofs.Common.{◌≡◌, ◌++◌, drop}
-use Rattle.dds_world.specs.Trace.{told_at}
-use Rattle.dds_world.proofs.run.tell_all.Given as goal
-
-abbrev pub invariant-loop-reply : goal.invariant-loop-reply
-invariant-loop-reply l = l.told ++ told_at l.at (drop l.reply-index l.replies) ≡ l.fn.told ++ told_at l.at l.replies
