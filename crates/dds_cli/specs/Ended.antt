@@ -1,10 +1,11 @@
-use Rattle.std.specs.Prelude.{ℕ, ◌≡◌, ◌≤◌, ◌⊎◌, true, String, List, [], ◌∷◌, length, codes, Option}
-use Rattle.dds_base.specs.Outside.{Took, IsEnded, Added, AddedPart, Rose, TookPast, TookWithin, line_ends}
-use Rattle.dds_script.specs.Grammar.{AcceptsBy, IsFirstFaultBy}
-use Rattle.dds_script.specs.declared.form.Runs.TheVariants.{FirstPath}
+-- What `dds step` promises at each of its ends.
+use Rattle.std.specs.Prelude.{ℕ, ◌≡◌, ◌⊎◌, true, String, List, []}
+use Rattle.std.specs.List.{list_all}
+use Rattle.dds_base.specs.Outside.{Added, AddedPart, Rose, TookPast, TookWithin}
+use Rattle.dds_script.specs.Grammar.{Accepts, IsFirstFault}
+use Rattle.dds_script.specs.Opening.{OpeningOf, ScriptOf as Script, first_opening}
 use Rattle.dds_transcript.specs.Text.{report_text}
-use Rattle.dds_script.specs.Opening.{ScriptOf as Script}
-use Rattle.dds_cluster.specs.Trace.{is_run, run_of}
+use Rattle.dds_cluster.specs.Trace.{is_plain, is_run, run_of}
 use Rattle.dds_world.specs.Stands.{Stands}
 use Rattle.dds_cluster.specs.declared.step.Step.{Step}
 use Rattle.dds_law_commit.specs.Law.{AreCaused}
@@ -14,14 +15,24 @@ use Rattle.dds_ends.specs.declared.end.End.{End}
 use Rattle.dds_ends.specs.declared.end.End.TheVariants.{Finished, Usage, TooLong, ReadFault, Script as ScriptEnd, WriteFault, Memory}
 use Rattle.dds_ends.specs.declared.command.TheConstants.{BYTES, LINES}
 
--- the script is what the bytes spell; the journal is the one that the script determines; it is a run; all calls of it
--- stand in one legal history of one map; and each Again, Full and Lost has its cause in it
-pub record IsScriptRun (bytes : List ℕ) (script : Script) (journal : List Step) : Type 0 where
-  pub accepted : AcceptsBy FirstPath bytes script
+-- the runs that are proved to stand in one legal history: those of one brick, one library and one caller, whose journal has
+-- neither stops nor orders
+pub record IsProvedToStand (opening : OpeningOf) (journal : List Step) : Type 0 where
+  pub first : opening ≡ first_opening
+  pub plain : list_all is_plain journal ≡ true
+
+-- the journal is the one that the script determines, and a run; and where it is one of those that are proved to stand, all
+-- its calls stand in one legal history of one map, and each Again, Full and Lost has its cause in it
+pub record IsRunOf (script : Script) (journal : List Step) : Type 0 where
   pub follows : journal ≡ steps script
   pub run : is_run script.opening journal ≡ true
-  pub stands : Stands (run_of script.opening journal)
-  pub caused : AreCaused script.opening journal
+  pub stands : IsProvedToStand script.opening journal → Stands (run_of script.opening journal)
+  pub caused : IsProvedToStand script.opening journal → AreCaused script.opening journal
+
+-- the script is what the bytes spell, and the journal is its run
+pub record IsScriptRun (bytes : List ℕ) (script : Script) (journal : List Step) : Type 0 where
+  pub accepted : Accepts bytes script
+  pub ran : IsRunOf script journal
 
 -- a script was read and run, and its transcript written, nothing else
 pub record IsFinished (before after : Outside) (journal : List Step) : Type 0 where
@@ -50,9 +61,10 @@ abbrev pub IsEndOf : {A : Type 0} → List (String A) → Outside → Outside �
 IsEndOf words before after journal Finished = IsStepCommand words × IsFinished before after journal
 IsEndOf words before after journal Usage = ¬ IsStepCommand words × IsUnread before after × IsUnwritten before after × (journal ≡ [])
 IsEndOf words before after journal (ScriptEnd fault) =
-    IsStepCommand words × ((bytes : List ℕ) × IsRefusedScript bytes before after journal × IsFirstFaultBy FirstPath bytes fault)
+    IsStepCommand words × ((bytes : List ℕ) × IsRefusedScript bytes before after journal × IsFirstFault bytes fault)
 IsEndOf words before after journal ReadFault =
-    IsStepCommand words × Rose before.source_faults after.source_faults × TookWithin before.left BYTES LINES after.left × IsUnwritten before after × (journal ≡ [])
+    IsStepCommand words × Rose before.source_faults after.source_faults × TookWithin before.left BYTES LINES after.left
+    × IsUnwritten before after × (journal ≡ [])
 IsEndOf words before after journal WriteFault =
     IsStepCommand words × Rose before.sink_faults after.sink_faults × IsCutShort before after journal
 IsEndOf words before after journal Memory =

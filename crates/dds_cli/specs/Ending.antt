@@ -1,36 +1,26 @@
-use Rattle.std.specs.Prelude.{ℕ, ◌≡◌, ◌⊎◌, true, List, [], Option}
+-- What the parts of the command end with, from the inside out.
+use Rattle.std.specs.Prelude.{ℕ, ◌≡◌, ◌⊎◌, List, [], Option}
 use Rattle.dds_base.specs.Outside.{Added, AddedPart, Rose}
-use Rattle.dds_script.specs.Grammar.{IsFirstFaultBy}
-use Rattle.dds_script.specs.declared.form.Runs.TheVariants.{FirstPath}
-use Rattle.dds_transcript.specs.Text.{report_text}
+use Rattle.dds_script.specs.Grammar.{IsFirstFault}
 use Rattle.dds_script.specs.Opening.{ScriptOf as Script}
-use Rattle.dds_transcript.specs.declared.report_line.ReportLine.{ReportLine}
-use Rattle.dds_cluster.specs.Trace.{is_run, run_of}
-use Rattle.dds_world.specs.Stands.{Stands}
+use Rattle.dds_transcript.specs.Text.{report_text}
 use Rattle.dds_cluster.specs.declared.step.Step.{Step}
-use Rattle.dds_law_commit.specs.Law.{AreCaused}
-use Rattle.dds_walk.specs.Walk.{steps, transcript}
-use Rattle.dds_cli.specs.Ended.{IsScriptRun}
+use Rattle.dds_walk.specs.Walk.{transcript}
+use Rattle.dds_cli.specs.Ended.{IsRunOf, IsScriptRun}
 use Rattle.dds_ends.specs.End.{IsSame}
 use Rattle.dds_ends.specs.declared.end.End.{End}
 use Rattle.dds_ends.specs.declared.end.End.TheVariants.{Finished, Usage, TooLong, ReadFault, Script as ScriptEnd, WriteFault, Memory}
 
--- what the parts of the command end with, from the inside out
-
 -- a script was run
-pub record IsRanScript (script : Script) (journal : List Step) : Type 0 where
-  pub follows : journal ≡ steps script
-  pub run : is_run script.opening journal ≡ true
-  pub stands : Stands (run_of script.opening journal)
-  pub caused : AreCaused script.opening journal
-
 abbrev pub IsEndOfScript : Script → Option (List ℕ) → ℕ → Option (List ℕ) → ℕ → List Step → End → Type 0
-IsEndOfScript script written faults later now journal Finished = IsRanScript script journal × Added written (report_text (transcript script journal)) later
+IsEndOfScript script written faults later now journal Finished = IsRunOf script journal × Added written (report_text (transcript script journal)) later
 IsEndOfScript script written faults later now journal Usage = ⊥
 IsEndOfScript script written faults later now journal (ScriptEnd fault) = ⊥
 IsEndOfScript script written faults later now journal ReadFault = ⊥
-IsEndOfScript script written faults later now journal WriteFault = IsRanScript script journal × Rose faults now × AddedPart written (report_text (transcript script journal)) later
-IsEndOfScript script written faults later now journal Memory = IsSame written faults later now ⊎ (IsRanScript script journal × AddedPart written (report_text (transcript script journal)) later)
+IsEndOfScript script written faults later now journal WriteFault =
+    IsRunOf script journal × Rose faults now × AddedPart written (report_text (transcript script journal)) later
+IsEndOfScript script written faults later now journal Memory =
+    IsSame written faults later now ⊎ (IsRunOf script journal × AddedPart written (report_text (transcript script journal)) later)
 IsEndOfScript script written faults later now journal TooLong = ⊥
 
 -- bytes were read as a script
@@ -47,7 +37,7 @@ pub record IsBegun (bytes : List ℕ) (written : Option (List ℕ)) (later : Opt
 abbrev pub IsEndOfBytes : List ℕ → Option (List ℕ) → ℕ → Option (List ℕ) → ℕ → List Step → End → Type 0
 IsEndOfBytes bytes written faults later now journal Finished = IsDone bytes written later journal
 IsEndOfBytes bytes written faults later now journal Usage = ⊥
-IsEndOfBytes bytes written faults later now journal (ScriptEnd fault) = IsFirstFaultBy FirstPath bytes fault × IsSame written faults later now × (journal ≡ [])
+IsEndOfBytes bytes written faults later now journal (ScriptEnd fault) = IsFirstFault bytes fault × IsSame written faults later now × (journal ≡ [])
 IsEndOfBytes bytes written faults later now journal ReadFault = ⊥
 IsEndOfBytes bytes written faults later now journal WriteFault = Rose faults now × IsBegun bytes written later journal
 IsEndOfBytes bytes written faults later now journal Memory = IsSame written faults later now ⊎ IsBegun bytes written later journal

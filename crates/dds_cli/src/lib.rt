@@ -2,6 +2,8 @@
 #![tactic(auto)]
 
 pub mod ended;
+#[cfg(test)]
+mod journal_tests;
 pub mod steps;
 #[cfg(test)]
 mod tests;

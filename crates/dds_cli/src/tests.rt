@@ -1,4 +1,4 @@
-//! The worked examples from bytes to bytes, a failing source and a failing sink.
+//! The longest value, the limits, a failing source and a failing sink; what scripts print the examples show.
 
 use crate::steps::run_steps;
 use dds_base::memory_sink::MemorySink;
@@ -11,9 +11,6 @@ use std::test::Fail;
 const ONE_KEY: &str =
     "cluster 1 1 1\nleaf 0/0 0\n0 put 5 6869\nquiet\n0 get 5\nquiet\n0 remove 5\nquiet\n0 get 5\nquiet\n";
 
-const ONE_KEY_SAYS: &str =
-    "0.0 done new\nquiet 8\n0.1 value 6869\nquiet 4\n0.2 done old\nquiet 8\n0.3 absent\nquiet 4\nhistory 4\nend\n";
-
 /// How `step` ends on this script, and whether it writes this text.
 fn outcome(alloc: Global, script: &[u8], text: &[u8]) -> Result<(End, bool), Fail> {
     let mut source = MemorySource::new(alloc, script, &[])?;
@@ -21,28 +18,6 @@ fn outcome(alloc: Global, script: &[u8], text: &[u8]) -> Result<(End, bool), Fai
     let words = vec![in alloc; String::from_str(alloc, "step")?]?;
     let ended = run_steps(alloc, words.as_slice(), &mut source, &mut sink);
     Ok((ended.end, sink.written() == text))
-}
-
-#[test]
-fn runs_the_worked_examples(rt: HostRuntime) -> Result<(), Fail> {
-    let examples = [
-        (ONE_KEY, ONE_KEY_SAYS),
-        ("cluster 1 1 1\nleaf 0/0 0\n", "history 0\nend\n"),
-        (
-            "cluster 1 1 1\nleaf 0/0 0\n0 swap 5 - aa\nquiet\n0 put 5 aa\nquiet\n0 swap 5 aa bb\nquiet\n0 swap 5 aa cc\nquiet\n0 get 5\nquiet\n",
-            "0.0 swapped no\nquiet 8\n0.1 done new\nquiet 8\n0.2 swapped yes\nquiet 8\n0.3 swapped no\nquiet 8\n0.4 value bb\nquiet 4\nhistory 5\nend\n",
-        ),
-        (
-            "cluster 1 1 1\nleaf 0/0 0\n0 put 7 aa\n0 get 7\nquiet\n0 remove 7\n",
-            "0.1 busy\n0.0 done new\nquiet 8\nopen 0.2\nhistory 1\nend\n",
-        ),
-    ];
-    for (script, text) in examples {
-        let (end, says) = outcome(rt.alloc(), script.as_bytes(), text.as_bytes())?;
-        assert_eq!(rt; end, End::Finished);
-        assert!(rt; says, "{script}");
-    }
-    Ok(())
 }
 
 /// A script that puts a value of this many bytes, and gets it.

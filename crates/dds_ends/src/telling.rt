@@ -16,7 +16,6 @@ pub fn tell(rt: &impl Eprint, end: End) -> io::Result<()> {
                 ScriptKind::Number => "Number",
                 ScriptKind::Value => "Value",
                 ScriptKind::Cover => "Cover",
-                ScriptKind::Later => "Later",
             };
             return eprintln!(rt; "line {line}: {kind}");
         }

@@ -9,7 +9,6 @@ use Rattle.dds_script.specs.Grammar.MovesBy.{cluster, leaf, old, line}
 use Rattle.dds_script.specs.Opening.{AreApart, AreOpeningLeaves, AreStaleLeaves, CoverAll, IsOpening, IsPlaced, meets, opening_leaf, stale_at, stale_leaf}
 use Rattle.dds_script.specs.Ranges.{IsInRanges}
 use Rattle.dds_script.specs.Sound.{IsFresh, IsSound}
-use Rattle.dds_script.specs.declared.form.Runs.{Runs}
 use Rattle.dds_script.specs.declared.line.Line.TheVariants as lines
 use Rattle.dds_script.specs.declared.place.Place.{Place}
 use Rattle.dds_script.specs.declared.place.Place.TheVariants as places
@@ -142,15 +141,15 @@ sound-by _ _ _ (line s ws l opened is) h =
       fresh = opened-all s.place s opened h.fresh;
     }
 
-pub sound-takes : (runs : Runs) (s : Reader) (text : List ℕ) (next : Reader) → Takes runs s text next → IsSound s → IsSound next
-sound-takes runs s text next m h = elim m [
+pub sound-takes : (s : Reader) (text : List ℕ) (next : Reader) → Takes s text next → IsSound s → IsSound next
+sound-takes s text next m h = elim m [
   | inl b ↦ subst IsSound (sym b.1) (sound-blank s s.place refl h)
-  | inr w ↦ sound-by s _ next w.1.0 h
+  | inr w ↦ sound-by s _ next w.1 h
 ]
 
-pub sound-reads : (runs : Runs) (s : Reader) (texts : List (List ℕ)) (last : Reader) → Reads runs s texts last → IsSound s → IsSound last
-sound-reads runs s [] last r h = subst IsSound (sym r) h
-sound-reads runs s (text ∷ texts) last r h = sound-reads runs r.0 texts last r.2 (sound-takes runs s text r.0 r.1 h)
+pub sound-reads : (s : Reader) (texts : List (List ℕ)) (last : Reader) → Reads s texts last → IsSound s → IsSound last
+sound-reads s [] last r h = subst IsSound (sym r) h
+sound-reads s (text ∷ texts) last r h = sound-reads r.0 texts last r.2 (sound-takes s text r.0 r.1 h)
 
 -- a reader whose opening has ended keeps what an opening keeps
 pub sound-opening : (s : Reader) → IsSound s → IsOpened s.place s → IsOpening (script_of s).opening
@@ -178,12 +177,12 @@ by-few _ _ _ (leaf s ws name list place spelled is group apart) = omega arith
 by-few _ _ _ (old s ws library name list place opened spelled below is group) = omega arith
 by-few _ _ _ (line s ws l opened is) = omega (arith, length-append s.lines (l ∷ []))
 
-takes-few : (runs : Runs) (s : Reader) (text : List ℕ) (next : Reader) → Takes runs s text next → length next.lines ≤ length s.lines + 1
-takes-few runs s text next m = elim m [
+takes-few : (s : Reader) (text : List ℕ) (next : Reader) → Takes s text next → length next.lines ≤ length s.lines + 1
+takes-few s text next m = elim m [
   | inl b ↦ rw b.1 (blank-few s s.place)
-  | inr w ↦ by-few s _ next w.1.0
+  | inr w ↦ by-few s _ next w.1
 ]
 
-pub reads-few : (runs : Runs) (s : Reader) (texts : List (List ℕ)) (last : Reader) → Reads runs s texts last → length last.lines ≤ length s.lines + length texts
-reads-few runs s [] last r = rw r (omega arith)
-reads-few runs s (text ∷ texts) last r = omega (arith, takes-few runs s text r.0 r.1, reads-few runs r.0 texts last r.2)
+pub reads-few : (s : Reader) (texts : List (List ℕ)) (last : Reader) → Reads s texts last → length last.lines ≤ length s.lines + length texts
+reads-few s [] last r = rw r (omega arith)
+reads-few s (text ∷ texts) last r = omega (arith, takes-few s text r.0 r.1, reads-few r.0 texts last r.2)

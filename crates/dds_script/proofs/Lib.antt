@@ -5,7 +5,6 @@ pub mod Parting
 pub mod Apart
 pub mod Behind
 pub mod Covering
-pub mod FirstPath
 pub mod Groups
 pub mod Hexadecimal
 pub mod Keeping

@@ -10,7 +10,7 @@ use Rattle.dds_script.proofs.Spelled.{spelled-right}
 use Rattle.dds_script.proofs.Unique.{same-list, same-name}
 use Rattle.dds_script.specs.Fields.{IsLineOf}
 use Rattle.dds_script.specs.Forms.{form_of, is_body}
-use Rattle.dds_script.specs.Grammar.{IsFaultAt, IsFaultOf, MovesBy, Takes, is_run, opening_stands}
+use Rattle.dds_script.specs.Grammar.{IsFaultAt, IsFaultOf, MovesBy, Takes, opening_stands}
 use Rattle.dds_script.specs.Grammar.MovesBy.{cluster, leaf, old, line}
 use Rattle.dds_script.specs.Lines.{AreRight, HasWords, IsBlank, text_form}
 use Rattle.dds_script.specs.Ranges.{IsGroup, IsName, IsRanges}
@@ -18,8 +18,6 @@ use Rattle.dds_script.specs.Text.{list_text, name_text}
 use Rattle.dds_script.specs.Words.{is_blank, word, words}
 use Rattle.dds_script.specs.declared.form.Form.{Form}
 use Rattle.dds_script.specs.declared.form.Form.TheVariants.{Blank, Cluster, Leaf, Old}
-use Rattle.dds_script.specs.declared.form.Runs.{Runs}
-use Rattle.dds_script.specs.declared.form.Runs.TheVariants.{All, FirstPath}
 use Rattle.dds_script.specs.declared.line.Line.{Line}
 use Rattle.dds_script.specs.declared.place.Place.{Place}
 use Rattle.dds_script.specs.declared.place.Place.TheVariants as places
@@ -34,7 +32,7 @@ some-form a b e = cc
 -- a line of the opening is no line behind it
 not-body : (r : Ranges) (ws : List (List ℕ)) (l : Line) (f : Form) → IsRanges r → (ws ≡ [] → ⊥) → IsLineOf r ws l → form_of ws ≡ Some f → is_body f ≡ false → ⊥
 not-body r ws l f is some h e b =
-    let a : AreRight r (Some f) ws l = subst (λ (x : Option Form). AreRight r x ws l) e (spelled-right r ws l is some h) in
+    let a : AreRight r (Some f) ws = subst (λ (x : Option Form). AreRight r x ws) e (spelled-right r ws l is some h) in
     true-false (is_body f) a.0 b
 
 same-ranges : (a b : Ranges) (ws : List (List ℕ)) → IsRanges a → IsRanges b → ws ≡ codes "cluster" ∷ decimal a.bricks ∷ decimal a.libraries ∷ decimal a.callers ∷ [] → ws ≡ codes "cluster" ∷ decimal b.bricks ∷ decimal b.libraries ∷ decimal b.callers ∷ [] → a ≡ b
@@ -83,10 +81,10 @@ blank-words : (text : List ℕ) → IsBlank text → HasWords text → ⊥
 blank-words text b w = true-false (is_blank text) b.1 w.1
 
 -- a text leads to one state
-pub one-next : (runs : Runs) (s : Reader) (text : List ℕ) (a b : Reader) → IsRanges s.ranges → Takes runs s text a → Takes runs s text b → a ≡ b
-one-next runs s text a b is x y = elim x [
+pub one-next : (s : Reader) (text : List ℕ) (a b : Reader) → IsRanges s.ranges → Takes s text a → Takes s text b → a ≡ b
+one-next s text a b is x y = elim x [
   | inl p ↦ elim y [ inl q ↦ p.1 ∙ sym q.1 | inr q ↦ absurd (blank-words text p.0 q.0) ]
-  | inr p ↦ elim y [ inl q ↦ absurd (blank-words text q.0 p.0) | inr q ↦ one-move s (words text) a b is (words-there text) p.1.0 q.1.0 ]
+  | inr p ↦ elim y [ inl q ↦ absurd (blank-words text q.0 p.0) | inr q ↦ one-move s (words text) a b is (words-there text) p.1 q.1 ]
 ]
 
 form-words : (text : List ℕ) → HasWords text → text_form text ≡ form_of (words text)
@@ -103,22 +101,17 @@ blank-stands places.Leaves = refl
 blank-stands places.Old = refl
 blank-stands places.Body = refl
 
-blank-run : (runs : Runs) (ws : List (List ℕ)) → is_run runs (Some Blank) ws ≡ true
-blank-run All ws = refl
-blank-run FirstPath ws = refl
-
-blank-apart : (runs : Runs) (s : Reader) (ws : List (List ℕ)) (kind : ScriptKind) → IsFaultAt runs s Blank ws kind → ⊥
-blank-apart runs s ws kinds.NoEnd f = f
-blank-apart runs s ws kinds.Form f = f
-blank-apart runs s ws kinds.Place f = true-false _ (blank-stands s.place) f
-blank-apart runs s ws kinds.Number f = f.1 tt
-blank-apart runs s ws kinds.Value f = f.2 tt
-blank-apart runs s ws kinds.Cover f = f.3
-blank-apart runs s ws kinds.Later f = true-false _ (blank-run runs ws) f.4
+blank-apart : (s : Reader) (ws : List (List ℕ)) (kind : ScriptKind) → IsFaultAt s Blank ws kind → ⊥
+blank-apart s ws kinds.NoEnd f = f
+blank-apart s ws kinds.Form f = f
+blank-apart s ws kinds.Place f = true-false _ (blank-stands s.place) f
+blank-apart s ws kinds.Number f = f.1 tt
+blank-apart s ws kinds.Value f = f.2 tt
+blank-apart s ws kinds.Cover f = f.3
 
 -- a text that leads to a state has no fault
-pub no-fault : (runs : Runs) (s : Reader) (text : List ℕ) (next : Reader) (kind : ScriptKind) → IsRanges s.ranges → Takes runs s text next → IsFaultOf runs s (text_form text) (words text) kind → ⊥
-no-fault runs s text next kind is t f = elim t [
-  | inl b ↦ blank-apart runs s (words text) kind (subst (λ (x : Option Form). IsFaultOf runs s x (words text) kind) (form-blank text b.0) f)
-  | inr w ↦ words-apart runs s (words text) next kind is (words-some text) w.1.0 w.1.1 (subst (λ (x : Option Form). IsFaultOf runs s x (words text) kind) (form-words text w.0) f)
+pub no-fault : (s : Reader) (text : List ℕ) (next : Reader) (kind : ScriptKind) → IsRanges s.ranges → Takes s text next → IsFaultOf s (text_form text) (words text) kind → ⊥
+no-fault s text next kind is t f = elim t [
+  | inl b ↦ blank-apart s (words text) kind (subst (λ (x : Option Form). IsFaultOf s x (words text) kind) (form-blank text b.0) f)
+  | inr w ↦ words-apart s (words text) next kind is (words-some text) w.1 (subst (λ (x : Option Form). IsFaultOf s x (words text) kind) (form-words text w.0) f)
 ]

@@ -5,27 +5,16 @@ use Rattle.dds_base.specs.Name.{Name}
 use Rattle.dds_base.specs.declared.leaf.Leaf.{Leaf as LeafOf}
 use Rattle.dds_script.proofs.Unique.{no-met, no-repeat}
 use Rattle.dds_script.specs.Fields.{IsBelow, IsListWord, IsNameWord}
-use Rattle.dds_script.specs.Grammar.{IsFaultAt, IsOpened, IsUncovered, MovesBy, is_run, opening_stands, takes_old}
+use Rattle.dds_script.specs.Grammar.{IsFaultAt, IsOpened, IsUncovered, MovesBy, opening_stands, takes_old}
 use Rattle.dds_script.specs.Grammar.MovesBy.{leaf, old}
 use Rattle.dds_script.specs.Opening.{meets, opening_leaf, stale_at, stale_leaf}
 use Rattle.dds_script.specs.Ranges.{IsGroup}
 use Rattle.dds_script.specs.Text.{list_text, name_text}
 use Rattle.dds_script.specs.declared.form.Form.TheVariants.{Leaf, Old}
-use Rattle.dds_script.specs.declared.form.Runs.{Runs}
-use Rattle.dds_script.specs.declared.form.Runs.TheVariants.{All, FirstPath}
 use Rattle.dds_script.specs.declared.place.Place.{Place}
 use Rattle.dds_script.specs.declared.place.Place.TheVariants as places
 use Rattle.dds_script.specs.declared.reader.Reader.{Reader}
 use Rattle.dds_script.specs.declared.script_error.ScriptKind.TheVariants as kinds
-
-pub leaf-later : (runs : Runs) (s : Reader) (name_word list_word : List ℕ) (name : Name) (list : List ℕ) → s.place ≡ places.Leaves → s.ranges.bricks ≤ 64 → IsNameWord name_word name → IsListWord s.ranges.bricks list_word list × IsGroup s.ranges.bricks list → meets s.leaves name ≡ false → is_run runs (Some Leaf) (codes "leaf" ∷ name_word ∷ list_word ∷ []) ≡ false → IsFaultAt runs s Leaf (codes "leaf" ∷ name_word ∷ list_word ∷ []) kinds.Later
-leaf-later runs s name_word list_word name list place few n l m r = (
-  ap (λ (p : Place). opening_stands p Leaf) place,
-  ((name, n), (list, l.0)),
-  tt,
-  λ f. elim f [ inl again ↦ no-repeat s.ranges.bricks list_word list few l.0 l.1 again | inr met ↦ no-met s.leaves name_word name n m met ],
-  r,
-)
 
 pub leaf-moves : (s : Reader) (name_word list_word : List ℕ) (name : Name) (list : List ℕ) (leaves : List LeafOf) (l : LeafOf) → s.place ≡ places.Leaves → IsNameWord name_word name → IsListWord s.ranges.bricks list_word list × IsGroup s.ranges.bricks list → meets s.leaves name ≡ false → l ≡ opening_leaf (length s.leaves) name list → leaves ≡ s.leaves ++ l ∷ [] → MovesBy s (codes "leaf" ∷ name_word ∷ list_word ∷ []) (record s { leaves = leaves })
 leaf-moves s name_word list_word name list leaves l place n g m le e =
@@ -45,19 +34,7 @@ opened-covered places.Leaves s o u = u o
 opened-covered places.Old s o u = u
 opened-covered places.Body s o u = u
 
-pub old-later : (runs : Runs) (s : Reader) (library_word name_word list_word : List ℕ) (library : ℕ) (name : Name) (list : List ℕ) → takes_old s.place ≡ true → IsOpened s.place s → s.ranges.bricks ≤ 64 → IsBelow s.ranges.libraries library_word library → IsNameWord name_word name → IsListWord s.ranges.bricks list_word list × IsGroup s.ranges.bricks list → runs ≡ FirstPath → IsFaultAt runs s Old (codes "old" ∷ library_word ∷ name_word ∷ list_word ∷ []) kinds.Later
-old-later runs s library_word name_word list_word library name list place opened few b n l r = (
-  old-stands s.place place,
-  ((library, b), (name, n), (list, l.0)),
-  tt,
-  λ f. elim f [ inl bare ↦ opened-covered s.place s opened bare | inr again ↦ no-repeat s.ranges.bricks list_word list few l.0 l.1 again ],
-  ap (λ (x : Runs). is_run x (Some Old) (codes "old" ∷ library_word ∷ name_word ∷ list_word ∷ [])) r,
-)
-
 pub old-moves : (s : Reader) (library_word name_word list_word : List ℕ) (library : ℕ) (name : Name) (list : List ℕ) (stale : List LeafOf) (l : LeafOf) → takes_old s.place ≡ true → IsOpened s.place s → IsBelow s.ranges.libraries library_word library → IsNameWord name_word name → IsListWord s.ranges.bricks list_word list × IsGroup s.ranges.bricks list → l ≡ stale_leaf library (stale_at library s.stale) name list → stale ≡ s.stale ++ l ∷ [] → MovesBy s (codes "old" ∷ library_word ∷ name_word ∷ list_word ∷ []) (record s { place = places.Old; stale = stale })
 old-moves s library_word name_word list_word library name list stale l place opened b n g le e =
     let ws : codes "old" ∷ library_word ∷ name_word ∷ list_word ∷ [] ≡ codes "old" ∷ decimal library ∷ name_text name ∷ list_text list ∷ [] = (let x = b.spelled in let y = n.0 in let z = g.0.spelled in cc (x, y, z)) in
     rw (e, le) (old s (codes "old" ∷ library_word ∷ name_word ∷ list_word ∷ []) library name list place opened ws b.below n.1 g.1)
-
-pub all-run : (runs : Runs) (ws : List (List ℕ)) → runs ≡ All → is_run runs (Some Old) ws ≡ true
-all-run runs ws e = ap (λ (x : Runs). is_run x (Some Old) ws) e

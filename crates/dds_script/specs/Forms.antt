@@ -79,25 +79,3 @@ is_body Quiet = true
 is_body Post = true
 is_body Take = true
 is_body Show = true
-
--- the first path runs lines of this form and these words
-abbrev pub is_first : Form → List (List ℕ) → Bool
-is_first Blank ws = true
-is_first Cluster ws = bytes_eq (word ws 1) (codes "1") && (bytes_eq (word ws 2) (codes "1") && bytes_eq (word ws 3) (codes "1"))
-is_first Leaf ws = bytes_eq (word ws 1) (codes "0/0") && bytes_eq (word ws 2) (codes "0")
-is_first Old ws = false
-is_first Get ws = true
-is_first Put ws = true
-is_first Remove ws = true
-is_first Swap ws = true
-is_first Stop ws = false
-is_first Join ws = false
-is_first Split ws = false
-is_first Fifo ws = false
-is_first Newest ws = false
-is_first Seed ws = false
-is_first Events ws = false
-is_first Quiet ws = true
-is_first Post ws = false
-is_first Take ws = false
-is_first Show ws = false

@@ -5,7 +5,7 @@ use Rattle.dds_base.specs.BrickList.{has}
 use Rattle.dds_base.specs.Name.{Name}
 use Rattle.dds_base.specs.declared.leaf.Leaf.{Leaf as LeafOf}
 use Rattle.dds_script.specs.Fields.{IsLineOf, IsListWord, IsNameWord, NumbersAre, ValuesAre}
-use Rattle.dds_script.specs.Forms.{form_of, is_body, is_first}
+use Rattle.dds_script.specs.Forms.{form_of, is_body}
 use Rattle.dds_script.specs.Lines.{text_form, HasWords, IsBlank}
 use Rattle.dds_script.specs.Opening.{ScriptOf, CoverAll, meets, opening_leaf, stale_at, stale_leaf}
 use Rattle.dds_script.specs.Ranges.{IsRanges, IsName, IsGroup}
@@ -13,8 +13,6 @@ use Rattle.dds_script.specs.Text.{list_text, name_text}
 use Rattle.dds_script.specs.Words.{HasNo, word, words}
 use Rattle.dds_script.specs.declared.form.Form.{Form}
 use Rattle.dds_script.specs.declared.form.Form.TheVariants.{Blank, Cluster, Leaf, Old}
-use Rattle.dds_script.specs.declared.form.Runs.{Runs}
-use Rattle.dds_script.specs.declared.form.Runs.TheVariants.{All, FirstPath}
 use Rattle.dds_script.specs.declared.line.Line.{Line}
 use Rattle.dds_script.specs.declared.line.Line.TheVariants as lines
 use Rattle.dds_script.specs.declared.place.Place.{Place}
@@ -59,24 +57,14 @@ pub data MovesBy : Reader → List (List ℕ) → Reader → Type 0 where
   old : (s : Reader) (ws : List (List ℕ)) (library : ℕ) (name : Name) (list : List ℕ) → takes_old s.place ≡ true → IsOpened s.place s → ws ≡ codes "old" ∷ decimal library ∷ name_text name ∷ list_text list ∷ [] → library < s.ranges.libraries → IsName name → IsGroup s.ranges.bricks list → MovesBy s ws (record s { place = places.Old; stale = s.stale ++ stale_leaf library (stale_at library s.stale) name list ∷ [] })
   line : (s : Reader) (ws : List (List ℕ)) (l : Line) → IsOpened s.place s → IsLineOf s.ranges ws l → MovesBy s ws (record s { place = places.Body; lines = s.lines ++ l ∷ [] })
 
--- the reader lets the form through
-abbrev pub is_run : Runs → Option Form → List (List ℕ) → Bool
-is_run All form ws = true
-is_run FirstPath None ws = false
-is_run FirstPath (Some f) ws = is_first f ws
-
--- the words are accepted, and lead to the next state
-abbrev pub AreAccepted : Runs → Reader → List (List ℕ) → Reader → Type 0
-AreAccepted runs s ws next = MovesBy s ws next × (is_run runs (form_of ws) ws ≡ true)
-
 -- the text is accepted, and leads to the next state
-abbrev pub Takes : Runs → Reader → List ℕ → Reader → Type 0
-Takes runs s text next = (IsBlank text × (next ≡ after_blank s.place s)) ⊎ (HasWords text × AreAccepted runs s (words text) next)
+abbrev pub Takes : Reader → List ℕ → Reader → Type 0
+Takes s text next = (IsBlank text × (next ≡ after_blank s.place s)) ⊎ (HasWords text × MovesBy s (words text) next)
 
 -- the texts are accepted one after another
-abbrev pub Reads : Runs → Reader → List (List ℕ) → Reader → Type 0
-Reads runs s [] last = last ≡ s
-Reads runs s (text ∷ texts) last = (next : Reader) × Takes runs s text next × Reads runs next texts last
+abbrev pub Reads : Reader → List (List ℕ) → Reader → Type 0
+Reads s [] last = last ≡ s
+Reads s (text ∷ texts) last = (next : Reader) × Takes s text next × Reads next texts last
 
 -- each text with an LF at its end
 abbrev pub lines_text : List (List ℕ) → List ℕ
@@ -89,26 +77,22 @@ AreTexts [] = Unit {0}
 AreTexts (text ∷ texts) = HasNo 10 text × AreTexts texts
 
 -- the bytes begin with lines that are accepted one after another and lead to the state; the rest of the bytes follows
-pub record IsReadTo (runs : Runs) (bytes : List ℕ) (rest : List ℕ) (state : Reader) : Type 0 where
+pub record IsReadTo (bytes : List ℕ) (rest : List ℕ) (state : Reader) : Type 0 where
   pub texts : List (List ℕ)
   pub whole : bytes ≡ lines_text texts ++ rest
   pub cut : AreTexts texts
-  pub reads : Reads runs first_reader texts state
+  pub reads : Reads first_reader texts state
 
 abbrev pub script_of : Reader → ScriptOf
 script_of s =
     record { opening = record { bricks = s.ranges.bricks; libraries = s.ranges.libraries; callers = s.ranges.callers; leaves = s.leaves; old = s.stale }; lines = s.lines }
 
--- the bytes are the script, and each line is one that is run
-pub record AcceptsBy (runs : Runs) (bytes : List ℕ) (script : ScriptOf) : Type 0 where
+-- the bytes are the script
+pub record Accepts (bytes : List ℕ) (script : ScriptOf) : Type 0 where
   pub state : Reader
-  pub all : IsReadTo runs bytes [] state
+  pub all : IsReadTo bytes [] state
   pub opened : IsOpened state.place state
   pub same : script ≡ script_of state
-
--- the bytes are the script
-abbrev pub Accepts : List ℕ → ScriptOf → Type 0
-Accepts bytes script = AcceptsBy All bytes script
 
 -- a line of a form of the opening may stand at a place
 abbrev pub opening_stands : Place → Form → Bool
@@ -169,28 +153,27 @@ abbrev pub IsCoverFault : Reader → Form → List (List ℕ) → Type 0
 IsCoverFault s f ws = IsCoverFaultBy (is_body f) s f ws
 
 -- a line of this form and these words has a fault of the kind, and none of a kind that is looked for before
-abbrev pub IsFaultAt : Runs → Reader → Form → List (List ℕ) → ScriptKind → Type 0
-IsFaultAt runs s f ws kinds.NoEnd = ⊥
-IsFaultAt runs s f ws kinds.Form = ⊥
-IsFaultAt runs s f ws kinds.Place = may_stand s.place f ≡ false
-IsFaultAt runs s f ws kinds.Number = (may_stand s.place f ≡ true) × (NumbersAre s.ranges f ws → ⊥)
-IsFaultAt runs s f ws kinds.Value = (may_stand s.place f ≡ true) × NumbersAre s.ranges f ws × (ValuesAre f ws → ⊥)
-IsFaultAt runs s f ws kinds.Cover = (may_stand s.place f ≡ true) × NumbersAre s.ranges f ws × ValuesAre f ws × IsCoverFault s f ws
-IsFaultAt runs s f ws kinds.Later = (may_stand s.place f ≡ true) × NumbersAre s.ranges f ws × ValuesAre f ws × (IsCoverFault s f ws → ⊥) × (is_run runs (Some f) ws ≡ false)
+abbrev pub IsFaultAt : Reader → Form → List (List ℕ) → ScriptKind → Type 0
+IsFaultAt s f ws kinds.NoEnd = ⊥
+IsFaultAt s f ws kinds.Form = ⊥
+IsFaultAt s f ws kinds.Place = may_stand s.place f ≡ false
+IsFaultAt s f ws kinds.Number = (may_stand s.place f ≡ true) × (NumbersAre s.ranges f ws → ⊥)
+IsFaultAt s f ws kinds.Value = (may_stand s.place f ≡ true) × NumbersAre s.ranges f ws × (ValuesAre f ws → ⊥)
+IsFaultAt s f ws kinds.Cover = (may_stand s.place f ≡ true) × NumbersAre s.ranges f ws × ValuesAre f ws × IsCoverFault s f ws
 
-abbrev pub IsFaultOf : Runs → Reader → Option Form → List (List ℕ) → ScriptKind → Type 0
-IsFaultOf runs s None ws kind = kind ≡ kinds.Form
-IsFaultOf runs s (Some f) ws kind = IsFaultAt runs s f ws kind
+abbrev pub IsFaultOf : Reader → Option Form → List (List ℕ) → ScriptKind → Type 0
+IsFaultOf s None ws kind = kind ≡ kinds.Form
+IsFaultOf s (Some f) ws kind = IsFaultAt s f ws kind
 
 -- what taking words does: they are accepted and lead to the next state, or this is their first kind of fault
-abbrev pub AreTaken : Runs → Reader → List (List ℕ) → Reader → Option ScriptKind → Type 0
-AreTaken runs s ws next None = AreAccepted runs s ws next
-AreTaken runs s ws next (Some kind) = IsFaultOf runs s (form_of ws) ws kind
+abbrev pub AreTaken : Reader → List (List ℕ) → Reader → Option ScriptKind → Type 0
+AreTaken s ws next None = MovesBy s ws next
+AreTaken s ws next (Some kind) = IsFaultOf s (form_of ws) ws kind
 
 -- what taking a text does: it is accepted and leads to the next state, or this is its first kind of fault
-abbrev pub IsTaken : Runs → Reader → List ℕ → Reader → Option ScriptKind → Type 0
-IsTaken runs s text next None = Takes runs s text next
-IsTaken runs s text next (Some kind) = IsFaultOf runs s (text_form text) (words text) kind
+abbrev pub IsTaken : Reader → List ℕ → Reader → Option ScriptKind → Type 0
+IsTaken s text next None = Takes s text next
+IsTaken s text next (Some kind) = IsFaultOf s (text_form text) (words text) kind
 
 -- what is wrong where no line is left
 abbrev pub IsEndFault : Place → Reader → ScriptKind → Type 0
@@ -206,28 +189,25 @@ IsGate s (Some kind) = IsEndFault s.place s kind
 
 -- at the state no line of the rest is accepted: there is no rest and the script isn't whole, or the rest has bytes
 -- but no LF, or its first line is refused
-pub data IsRefused : Runs → Reader → List ℕ → ScriptKind → Type 0 where
-  ended : (runs : Runs) (s : Reader) (kind : ScriptKind) → IsEndFault s.place s kind → IsRefused runs s [] kind
-  no_end : (runs : Runs) (s : Reader) (rest : List ℕ) → 0 < length rest → HasNo 10 rest → IsRefused runs s rest kinds.NoEnd
-  refused : (runs : Runs) (s : Reader) (text more : List ℕ) (kind : ScriptKind) → HasNo 10 text → IsFaultOf runs s (text_form text) (words text) kind → IsRefused runs s (text ++ 10 ∷ more) kind
+pub data IsRefused : Reader → List ℕ → ScriptKind → Type 0 where
+  ended : (s : Reader) (kind : ScriptKind) → IsEndFault s.place s kind → IsRefused s [] kind
+  no_end : (s : Reader) (rest : List ℕ) → 0 < length rest → HasNo 10 rest → IsRefused s rest kinds.NoEnd
+  refused : (s : Reader) (text more : List ℕ) (kind : ScriptKind) → HasNo 10 text → IsFaultOf s (text_form text) (words text) kind → IsRefused s (text ++ 10 ∷ more) kind
 
 -- the fault is that of the first line that is not accepted
-pub record IsFirstFaultBy (runs : Runs) (bytes : List ℕ) (fault : ScriptFault) : Type 0 where
+pub record IsFirstFault (bytes : List ℕ) (fault : ScriptFault) : Type 0 where
   pub state : Reader
   pub rest : List ℕ
-  pub before : IsReadTo runs bytes rest state
-  pub refuses : IsRefused runs state rest fault.kind
+  pub before : IsReadTo bytes rest state
+  pub refuses : IsRefused state rest fault.kind
   pub line : fault.line ≡ length before.texts + 1
 
-abbrev pub IsFirstFault : List ℕ → ScriptFault → Type 0
-IsFirstFault bytes fault = IsFirstFaultBy All bytes fault
-
 -- the error is the first fault of the bytes, or want of memory
-abbrev pub IsScriptError : Runs → List ℕ → ScriptError → Type 0
-IsScriptError runs bytes (Fault fault) = IsFirstFaultBy runs bytes fault
-IsScriptError runs bytes Memory = Unit {0}
+abbrev pub IsScriptError : List ℕ → ScriptError → Type 0
+IsScriptError bytes (Fault fault) = IsFirstFault bytes fault
+IsScriptError bytes Memory = Unit {0}
 
 -- bytes with a fault are no script
-abbrev pub IsNoScript : Runs → List ℕ → ScriptError → Type 0
-IsNoScript runs bytes (Fault fault) = (script : ScriptOf) → AcceptsBy runs bytes script → ⊥
-IsNoScript runs bytes Memory = Unit {0}
+abbrev pub IsNoScript : List ℕ → ScriptError → Type 0
+IsNoScript bytes (Fault fault) = (script : ScriptOf) → Accepts bytes script → ⊥
+IsNoScript bytes Memory = Unit {0}

@@ -1,7 +1,7 @@
 -- Reading one line behind the opening.
 use Rattle.std.specs.Prelude.{ℕ, ◌≡◌, ◌⊎◌, Bool, true, false, List, Option, Some, None, Result, Ok, Err, IsTrue, not, if◌then◌else◌}
 use Rattle.dds_script.specs.Fields.{IsLineOf, NumbersAre, ValuesAre}
-use Rattle.dds_script.specs.Forms.{form_of, is_body, is_first}
+use Rattle.dds_script.specs.Forms.{form_of, is_body}
 use Rattle.dds_script.specs.Words.{is_ascii, is_blank, words}
 use Rattle.dds_script.specs.declared.form.Form.{Form}
 use Rattle.dds_script.specs.declared.form.Form.TheVariants.{Blank}
@@ -48,28 +48,14 @@ IsRefusedAs r form ws fault.Number = RefusesNumber r form ws
 IsRefusedAs r form ws fault.Value = RefusesValue r form ws
 IsRefusedAs r form ws fault.Memory = Unit {0}
 
--- the first path runs the line
-abbrev pub is_first_line : Line → Bool
-is_first_line (Call caller op) = true
-is_first_line (Stop node) = false
-is_first_line (Join brick name via) = false
-is_first_line (Split brick name) = false
-is_first_line (Pick picker) = false
-is_first_line (Events count) = false
-is_first_line Quiet = true
-is_first_line (Post node) = false
-is_first_line (Take node from) = false
-is_first_line (Show brick) = false
-is_first_line Nothing = true
-
--- the form is one behind the opening, all its words are right, and the first path runs it where it runs the line
-abbrev pub AreRight : Ranges → Option Form → List (List ℕ) → Line → Type 0
-AreRight r None ws l = ⊥
-AreRight r (Some f) ws l = (is_body f ≡ true) × NumbersAre r f ws × ValuesAre f ws × (is_first f ws ≡ is_first_line l)
+-- the form is one behind the opening, and all its words are right
+abbrev pub AreRight : Ranges → Option Form → List (List ℕ) → Type 0
+AreRight r None ws = ⊥
+AreRight r (Some f) ws = (is_body f ≡ true) × NumbersAre r f ws × ValuesAre f ws
 
 -- what reading words of a form answers
 abbrev pub AreReadAs : Ranges → Option Form → List (List ℕ) → Result Line LineFault → Type 0
-AreReadAs r form ws (Ok line) = IsLineOf r ws line × AreRight r form ws line
+AreReadAs r form ws (Ok line) = IsLineOf r ws line × AreRight r form ws
 AreReadAs r form ws (Err e) = IsRefusedAs r form ws e
 
 -- what reading words answers

@@ -5,12 +5,9 @@ use Rattle.std.specs.List.{AllByRecursion}
 use Rattle.dds_script.specs.Fields.{IsListWord, IsSpelled, IsWithin}
 use Rattle.dds_script.specs.Forms.{is_body}
 use Rattle.dds_script.specs.Grammar.{IsRepeating}
-use Rattle.dds_script.specs.Lines.{is_first_line}
 use Rattle.dds_script.specs.Opening.{AreApart, AreOpeningLeaves, AreStaleLeaves, CoverAll, IsPlaced}
 use Rattle.dds_script.specs.Ranges.{IsGroup, IsInRanges, IsRanges}
 use Rattle.dds_script.specs.declared.form.Form.{Form}
-use Rattle.dds_script.specs.declared.form.Runs.{Runs}
-use Rattle.dds_script.specs.declared.form.Runs.TheVariants.{All, FirstPath}
 use Rattle.dds_script.specs.declared.line.Line.{Line}
 use Rattle.dds_script.specs.declared.script_error.ScriptKind.{ScriptKind}
 use Rattle.dds_script.specs.declared.script_error.ScriptKind.TheVariants as kinds
@@ -53,11 +50,6 @@ AreRangesRead bricks libraries callers (Some r) = (bricks ≡ decimal r.bricks) 
 abbrev pub IsBehind : Option Form → Type 0
 IsBehind None = Unit {0}
 IsBehind (Some f) = is_body f ≡ true
-
--- the reader lets the line through
-abbrev pub runs_line : Runs → Line → Bool
-runs_line All l = true
-runs_line FirstPath l = is_first_line l
 
 -- before the cluster line a wrong word counts for nothing
 abbrev pub late : Place → ScriptKind → ScriptKind

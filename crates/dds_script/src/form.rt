@@ -24,10 +24,3 @@ pub enum Form {
     Take,
     Show,
 }
-
-/// Which forms a reader lets through: all of them, or those that the first path runs.
-#[derive(Clone, Copy, PartialEq, Eq, Debug)]
-pub enum Runs {
-    All,
-    FirstPath,
-}

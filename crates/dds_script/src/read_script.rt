@@ -1,11 +1,10 @@
 //! Reading a whole script, in one pass over its bytes.
 
 ghost use Rattle.std.specs.Prelude.{◌≡◌, ◌<◌, ◌≤◌, ◌^◌, [], length, IfOk, IfErr};
-ghost use Rattle.dds_script.specs.Grammar.{Accepts, AcceptsBy, IsNoScript, IsOpened, IsReadTo, IsScriptError, script_of};
-ghost use Rattle.dds_script.specs.Opening.{ScriptOf, first_opening};
+ghost use Rattle.dds_script.specs.Grammar.{Accepts, IsNoScript, IsOpened, IsReadTo, IsScriptError, script_of};
+ghost use Rattle.dds_script.specs.Opening.{ScriptOf};
 ghost use Rattle.dds_script.specs.Sound.{IsSound};
 
-use crate::form::Runs;
 use crate::opening::{Opening, Script};
 use crate::reader::Reader;
 use crate::script_error::{ScriptError, ScriptFault, ScriptKind};
@@ -20,31 +19,18 @@ pub fn read_script(alloc: Global, bytes: &[u8]) -> Result<Script, ScriptError>
     requires { length bytes.now < 2 ^ 31 }
     ensures script { IfOk result (λ script. Accepts bytes.now script) }
     ensures one { IfOk result (λ script. (other : ScriptOf) → Accepts bytes.now other → other ≡ script) }
-    ensures error { IfErr result (λ error. IsScriptError Runs.All bytes.now error) }
-    ensures none { IfErr result (λ error. IsNoScript Runs.All bytes.now error) }
+    ensures error { IfErr result (λ error. IsScriptError bytes.now error) }
+    ensures none { IfErr result (λ error. IsNoScript bytes.now error) }
 {
-    read_by(alloc, Runs::All, bytes)
+    read_whole(alloc, bytes)
 }
 
-/// As `read_script`, but a line that the first path can't run yet is not accepted: its one opening is that of one brick,
-/// one library and one caller.
-pub fn read_first_script(alloc: Global, bytes: &[u8]) -> Result<Script, ScriptError>
+fn read_whole(alloc: Global, bytes: &[u8]) -> Result<Script, ScriptError>
     requires { length bytes.now < 2 ^ 31 }
-    ensures script { IfOk result (λ script. AcceptsBy Runs.FirstPath bytes.now script) }
-    ensures opening { IfOk result (λ script. script.opening ≡ first_opening) }
-    ensures one { IfOk result (λ script. (other : ScriptOf) → AcceptsBy Runs.FirstPath bytes.now other → other ≡ script) }
-    ensures error { IfErr result (λ error. IsScriptError Runs.FirstPath bytes.now error) }
-    ensures none { IfErr result (λ error. IsNoScript Runs.FirstPath bytes.now error) }
+    ensures script { IfOk result (λ script. Accepts bytes.now script) }
+    ensures error { IfErr result (λ error. IsScriptError bytes.now error) }
 {
-    read_by(alloc, Runs::FirstPath, bytes)
-}
-
-fn read_by(alloc: Global, runs: Runs, bytes: &[u8]) -> Result<Script, ScriptError>
-    requires { length bytes.now < 2 ^ 31 }
-    ensures script { IfOk result (λ script. AcceptsBy runs bytes.now script) }
-    ensures error { IfErr result (λ error. IsScriptError runs bytes.now error) }
-{
-    match read_lines(alloc, runs, bytes) {
+    match read_lines(alloc, bytes) {
         Ok(reader) => Ok(script_of(reader)),
         Err(error) => Err(error),
     }
@@ -60,11 +46,11 @@ fn script_of(reader: Reader) -> Script
     Script::of(opening, reader.lines)
 }
 
-fn read_lines(alloc: Global, runs: Runs, bytes: &[u8]) -> Result<Reader, ScriptError>
+fn read_lines(alloc: Global, bytes: &[u8]) -> Result<Reader, ScriptError>
     requires { length bytes.now < 2 ^ 31 }
-    ensures read { IfOk result (λ reader. IsReadTo runs bytes.now [] reader) }
+    ensures read { IfOk result (λ reader. IsReadTo bytes.now [] reader) }
     ensures opened { IfOk result (λ reader. IsOpened reader.place reader) }
-    ensures error { IfErr result (λ error. IsScriptError runs bytes.now error) }
+    ensures error { IfErr result (λ error. IsScriptError bytes.now error) }
 {
     let mut reader = Reader::new(alloc);
     let mut number = 1u32;
@@ -73,7 +59,7 @@ fn read_lines(alloc: Global, runs: Runs, bytes: &[u8]) -> Result<Reader, ScriptE
         let Some(end) = find(rest, b'\n') else {
             return Err(fault(number, ScriptKind::NoEnd));
         };
-        match take_text(alloc, runs, &mut reader, &rest[..end]) {
+        match take_text(alloc, &mut reader, &rest[..end]) {
             Ok(None) => {}
             Ok(Some(kind)) => return Err(fault(number, kind)),
             Err(Memory) => return Err(ScriptError::Memory),

@@ -9,7 +9,6 @@ pub enum ScriptKind {
     Number,
     Value,
     Cover,
-    Later,
 }
 
 /// The first line that is not accepted, counted from 1, and what is wrong with it.

@@ -4,12 +4,11 @@ ghost use Rattle.std.specs.Prelude.{◌≡◌, Bool, [], ◌∷◌, IfOk};
 ghost use Rattle.dds_script.specs.Fields.{IsLineOf};
 ghost use Rattle.dds_script.specs.Forms.{form_of};
 ghost use Rattle.dds_script.specs.Grammar.{AreTaken, IsTaken, after_blank};
-ghost use Rattle.dds_script.specs.Lines.{AreRight, is_first_line};
-ghost use Rattle.dds_script.specs.Sound.{IsBehind, IsSound, late, runs_line};
+ghost use Rattle.dds_script.specs.Lines.{AreRight};
+ghost use Rattle.dds_script.specs.Sound.{IsBehind, IsSound, late};
 ghost use Rattle.dds_script.specs.Words.{words};
 
 use crate::cuts::{Words, cut_words};
-use crate::form::Runs;
 use crate::line::Line;
 use crate::place::Place;
 use crate::ranges::LineFault;
@@ -24,12 +23,11 @@ use std::alloc::Global;
 /// Takes a line: nothing is answered where it is accepted, and else its first kind of fault.
 pub(crate) fn take_text(
     alloc: Global,
-    runs: Runs,
     reader: &mut Reader,
     text: &[u8],
 ) -> Result<Option<ScriptKind>, Memory>
     requires { IsSound reader.old }
-    ensures { IfOk result (λ kind. IsTaken runs reader.old text.now reader.new kind) }
+    ensures { IfOk result (λ kind. IsTaken reader.old text.now reader.new kind) }
 {
     if !is_ascii(text) {
         return Ok(Some(ScriptKind::Form));
@@ -38,7 +36,7 @@ pub(crate) fn take_text(
         take_blank(reader)?;
         return Ok(None);
     }
-    take_words(alloc, runs, reader, text)
+    take_words(alloc, reader, text)
 }
 
 fn take_blank(reader: &mut Reader) -> Result<(), Memory>
@@ -53,48 +51,38 @@ fn take_blank(reader: &mut Reader) -> Result<(), Memory>
 }
 
 /// Takes the words of a line.
-fn take_words(
-    alloc: Global,
-    runs: Runs,
-    reader: &mut Reader,
-    text: &[u8],
-) -> Result<Option<ScriptKind>, Memory>
+fn take_words(alloc: Global, reader: &mut Reader, text: &[u8]) -> Result<Option<ScriptKind>, Memory>
     requires { IsSound reader.old }
-    ensures { IfOk result (λ kind. AreTaken runs reader.old (words text.now) reader.new kind) }
+    ensures { IfOk result (λ kind. AreTaken reader.old (words text.now) reader.new kind) }
 {
     match cut_words(text) {
         Words::Three(a, b, c) => {
             if same(a, b"leaf") {
-                return take_leaf(alloc, runs, reader, b, c);
+                return take_leaf(alloc, reader, b, c);
             }
-            take_line(alloc, runs, reader, text)
+            take_line(alloc, reader, text)
         }
         Words::Four(a, b, c, d) => {
             if same(a, b"cluster") {
-                return Ok(take_cluster(runs, reader, b, c, d));
+                return Ok(take_cluster(reader, b, c, d));
             }
             if same(a, b"old") {
-                return take_old(alloc, runs, reader, b, c, d);
+                return take_old(alloc, reader, b, c, d);
             }
-            take_line(alloc, runs, reader, text)
+            take_line(alloc, reader, text)
         }
-        _ => take_line(alloc, runs, reader, text),
+        _ => take_line(alloc, reader, text),
     }
 }
 
 /// Takes the words of a line that is none of the opening.
-fn take_line(
-    alloc: Global,
-    runs: Runs,
-    reader: &mut Reader,
-    text: &[u8],
-) -> Result<Option<ScriptKind>, Memory>
+fn take_line(alloc: Global, reader: &mut Reader, text: &[u8]) -> Result<Option<ScriptKind>, Memory>
     requires sound { IsSound reader.old }
     requires behind { IsBehind (form_of (words text.now)) }
-    ensures { IfOk result (λ kind. AreTaken runs reader.old (words text.now) reader.new kind) }
+    ensures { IfOk result (λ kind. AreTaken reader.old (words text.now) reader.new kind) }
 {
     match read_words(alloc, &reader.ranges, text) {
-        Ok(line) => put_line(runs, reader, text, line),
+        Ok(line) => put_line(reader, text, line),
         Err(LineFault::Form) => Ok(Some(ScriptKind::Form)),
         Err(LineFault::Number) => Ok(Some(late(reader.place, ScriptKind::Number))),
         Err(LineFault::Value) => Ok(Some(late(reader.place, ScriptKind::Value))),
@@ -113,55 +101,16 @@ fn late(place: Place, kind: ScriptKind) -> ScriptKind
 }
 
 /// Puts a line behind the others.
-fn put_line(
-    runs: Runs,
-    reader: &mut Reader,
-    text: &[u8],
-    line: Line,
-) -> Result<Option<ScriptKind>, Memory>
+fn put_line(reader: &mut Reader, text: &[u8], line: Line) -> Result<Option<ScriptKind>, Memory>
     requires sound { IsSound reader.old }
     requires line { IsLineOf reader.old.ranges (words text.now) line }
-    requires right { AreRight reader.old.ranges (form_of (words text.now)) (words text.now) line }
-    ensures { IfOk result (λ kind. AreTaken runs reader.old (words text.now) reader.new kind) }
+    requires right { AreRight reader.old.ranges (form_of (words text.now)) (words text.now) }
+    ensures { IfOk result (λ kind. AreTaken reader.old (words text.now) reader.new kind) }
 {
     if let Some(kind) = unopened(reader) {
         return Ok(Some(kind));
     }
-    if !runs_line(runs, &line) {
-        return Ok(Some(ScriptKind::Later));
-    }
     reader.lines.push(line)?;
     reader.place = Place::Body;
     Ok(None)
-}
-
-fn runs_line(runs: Runs, line: &Line) -> bool
-    ensures { result ≡ runs_line runs line.now }
-{
-    match runs {
-        Runs::All => true,
-        Runs::FirstPath => is_first_line(line),
-    }
-}
-
-fn is_first_line(line: &Line) -> bool
-    ensures { result ≡ is_first_line line.now }
-{
-    match line {
-        Line::Call { caller: _, op: _ } => true,
-        Line::Stop { node: _ } => false,
-        Line::Join {
-            brick: _,
-            name: _,
-            via: _,
-        } => false,
-        Line::Split { brick: _, name: _ } => false,
-        Line::Pick(_) => false,
-        Line::Events(_) => false,
-        Line::Quiet => true,
-        Line::Post { node: _ } => false,
-        Line::Take { node: _, from: _ } => false,
-        Line::Show { brick: _ } => false,
-        Line::Nothing => true,
-    }
 }

@@ -1,12 +1,10 @@
 //! Taking the words of a line of the opening.
 
 ghost use Rattle.std.specs.Prelude.{◌≡◌, ◌<◌, Some, [], ◌∷◌, codes, IfOk};
-ghost use Rattle.dds_script.specs.Grammar.{AreTaken, IsGate, is_run, takes_old};
+ghost use Rattle.dds_script.specs.Grammar.{AreTaken, IsGate, takes_old};
 ghost use Rattle.dds_script.specs.Opening.{opening_leaf, stale_at, stale_leaf};
 ghost use Rattle.dds_script.specs.Sound.{AreRangesRead, IsSound};
-ghost use Rattle.dds_script.specs.declared.form.Form.TheVariants as form;
 
-use crate::form::Runs;
 use crate::group_word::{Group, read_group};
 use crate::leaves::{cover_all, meets};
 use crate::node_words::read_name;
@@ -15,7 +13,6 @@ use crate::place::Place;
 use crate::ranges::Ranges;
 use crate::reader::Reader;
 use crate::script_error::ScriptKind;
-use crate::words::same;
 use dds_base::brick_list::BrickList;
 use dds_base::leaf::Leaf;
 use dds_base::memory::Memory;
@@ -44,13 +41,12 @@ pub(crate) fn unopened(reader: &Reader) -> Option<ScriptKind>
 
 /// Takes the words of `cluster B L C`.
 pub(crate) fn take_cluster(
-    runs: Runs,
     reader: &mut Reader,
     bricks: &[u8],
     libraries: &[u8],
     callers: &[u8],
 ) -> Option<ScriptKind>
-    ensures { AreTaken runs reader.old (codes "cluster" ∷ bricks.now ∷ libraries.now ∷ callers.now ∷ []) reader.new result }
+    ensures { AreTaken reader.old (codes "cluster" ∷ bricks.now ∷ libraries.now ∷ callers.now ∷ []) reader.new result }
 {
     let Place::BeforeCluster = reader.place else {
         return Some(ScriptKind::Place);
@@ -58,9 +54,6 @@ pub(crate) fn take_cluster(
     let Some(ranges) = read_ranges(bricks, libraries, callers) else {
         return Some(ScriptKind::Number);
     };
-    if !runs_cluster(runs, bricks, libraries, callers) {
-        return Some(ScriptKind::Later);
-    }
     reader.place = Place::Leaves;
     reader.ranges = ranges;
     None
@@ -83,25 +76,15 @@ fn read_ranges(bricks: &[u8], libraries: &[u8], callers: &[u8]) -> Option<Ranges
     }
 }
 
-fn runs_cluster(runs: Runs, bricks: &[u8], libraries: &[u8], callers: &[u8]) -> bool
-    ensures { result ≡ is_run runs (Some form.Cluster) (codes "cluster" ∷ bricks.now ∷ libraries.now ∷ callers.now ∷ []) }
-{
-    match runs {
-        Runs::All => true,
-        Runs::FirstPath => same(bricks, b"1") && same(libraries, b"1") && same(callers, b"1"),
-    }
-}
-
 /// Takes the words of `leaf NAME LIST`.
 pub(crate) fn take_leaf(
     alloc: Global,
-    runs: Runs,
     reader: &mut Reader,
     name_word: &[u8],
     list_word: &[u8],
 ) -> Result<Option<ScriptKind>, Memory>
     requires { IsSound reader.old }
-    ensures { IfOk result (λ kind. AreTaken runs reader.old (codes "leaf" ∷ name_word.now ∷ list_word.now ∷ []) reader.new kind) }
+    ensures { IfOk result (λ kind. AreTaken reader.old (codes "leaf" ∷ name_word.now ∷ list_word.now ∷ []) reader.new kind) }
 {
     let Place::Leaves = reader.place else {
         return Ok(Some(ScriptKind::Place));
@@ -117,21 +100,9 @@ pub(crate) fn take_leaf(
     if meets(reader.leaves.as_slice(), &name) {
         return Ok(Some(ScriptKind::Cover));
     }
-    if !runs_leaf(runs, name_word, list_word) {
-        return Ok(Some(ScriptKind::Later));
-    }
     let number = reader.leaves.len() as u64;
     reader.leaves.push(opening_leaf(number, name, list))?;
     Ok(None)
-}
-
-fn runs_leaf(runs: Runs, name: &[u8], list: &[u8]) -> bool
-    ensures { result ≡ is_run runs (Some form.Leaf) (codes "leaf" ∷ name.now ∷ list.now ∷ []) }
-{
-    match runs {
-        Runs::All => true,
-        Runs::FirstPath => same(name, b"0/0") && same(list, b"0"),
-    }
 }
 
 fn opening_leaf(number: u64, name: LeafName, list: BrickList) -> Leaf
@@ -149,14 +120,13 @@ fn opening_leaf(number: u64, name: LeafName, list: BrickList) -> Leaf
 /// Takes the words of `old LIBRARY NAME LIST`.
 pub(crate) fn take_old(
     alloc: Global,
-    runs: Runs,
     reader: &mut Reader,
     library: &[u8],
     name: &[u8],
     list: &[u8],
 ) -> Result<Option<ScriptKind>, Memory>
     requires { IsSound reader.old }
-    ensures { IfOk result (λ kind. AreTaken runs reader.old (codes "old" ∷ library.now ∷ name.now ∷ list.now ∷ []) reader.new kind) }
+    ensures { IfOk result (λ kind. AreTaken reader.old (codes "old" ∷ library.now ∷ name.now ∷ list.now ∷ []) reader.new kind) }
 {
     if !takes_old(reader.place) {
         return Ok(Some(ScriptKind::Place));
@@ -175,9 +145,6 @@ pub(crate) fn take_old(
     if let Some(kind) = unopened(reader) {
         return Ok(Some(kind));
     }
-    let Runs::All = runs else {
-        return Ok(Some(ScriptKind::Later));
-    };
     let number = stale_at(library, reader.stale.as_slice());
     reader.stale.push(stale_leaf(library, number, name, list))?;
     reader.place = Place::Old;

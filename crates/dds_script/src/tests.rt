@@ -2,7 +2,7 @@
 
 use crate::ranges::{LineFault, Ranges};
 use crate::read_line::read_line;
-use crate::read_script::{read_first_script, read_script};
+use crate::read_script::read_script;
 use crate::script_error::{ScriptError, ScriptFault, ScriptKind};
 use dds_base::memory::Memory;
 use dds_base::number::{NodeNo, Stamp};
@@ -185,62 +185,6 @@ fn refuses_openings(rt: HostRuntime) -> Result<(), Fail> {
             Err(ScriptFault { line, kind }),
             "{script}"
         );
-    }
-    Ok(())
-}
-
-/// What the reader of the first path's scripts doesn't let through yet, and what it refuses as any reader.
-#[test]
-fn puts_off_lines(rt: HostRuntime) -> Result<(), Fail> {
-    let scripts = [
-        ("cluster 2 1 1\n", 1, ScriptKind::Later),
-        ("cluster 1 1 1\nleaf 0/1 0\n", 2, ScriptKind::Later),
-        (
-            "cluster 1 1 1\nleaf 0/0 0\nold 0 0/0 0\n",
-            3,
-            ScriptKind::Later,
-        ),
-        (
-            "cluster 1 1 1\nleaf 0/0 0\nquiet\nstop b0\n",
-            4,
-            ScriptKind::Later,
-        ),
-        (
-            "cluster 1 1 1\nleaf 0/0 0\npick fifo\n",
-            3,
-            ScriptKind::Later,
-        ),
-        (
-            "cluster 1 1 1\nleaf 0/0 0\nshow b1\n",
-            3,
-            ScriptKind::Number,
-        ),
-        ("cluster 65 1 1\n", 1, ScriptKind::Number),
-        (
-            "cluster 1 1 1\nleaf 0/0 0\nleaf 0/0 0\n",
-            3,
-            ScriptKind::Cover,
-        ),
-        (
-            "cluster 1 1 1\nleaf 0/0 0\n1 get 5\n",
-            3,
-            ScriptKind::Number,
-        ),
-    ];
-    for (script, line, kind) in scripts {
-        let bytes = script.as_bytes();
-        if bytes.len() < 1000 {
-            match &read_first_script(rt.alloc(), bytes) {
-                Err(error) => {
-                    assert_eq!(rt;
-                        *error,
-                        ScriptError::Fault(ScriptFault { line, kind }),
-                        "{script}"
-                    );
-                }
-                Ok(_) => assert!(rt; false, "{script}"),
-            }
-        }
     }
     Ok(())
 }

@@ -4,7 +4,10 @@ pub mod Leaves
 pub mod Counted
 pub mod Picked
 pub mod Walked
-pub mod Plain
+pub mod Along
+pub mod AlongSteps
+pub mod AlongLines
+pub mod Once
 pub mod Entries
 pub mod Rank
 pub mod Changed

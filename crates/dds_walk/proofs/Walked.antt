@@ -162,7 +162,7 @@ walked-quiet : (o : OpeningOf) (limit : ℕ) (m : Moved) (loud : Bool) → IsWal
 walked-quiet o limit m true g = walked-says o m.walk report.Loud g
 walked-quiet o limit m false g = walked-says o m.walk (report.Quiet m.events) g
 
-walked-line : (o : OpeningOf) (limit : ℕ) (w : Walk) (l : Line) → o.bricks ≤ 64 → IsInRanges (ranges_of o) l → IsWalked o w → IsWalked o (line_done limit w l)
+pub walked-line : (o : OpeningOf) (limit : ℕ) (w : Walk) (l : Line) → o.bricks ≤ 64 → IsInRanges (ranges_of o) l → IsWalked o w → IsWalked o (line_done limit w l)
 walked-line o limit w (line.Call caller op) few h g = walked-call o w caller op g
 walked-line o limit w (line.Stop node) few h g =
     walked-stop o w node (is_possible w.trace (step.Stop node)) g refl
@@ -189,7 +189,7 @@ walked-lines o limit w [] few h g = g
 walked-lines o limit w (l ∷ ls) few h g =
     walked-lines o limit (line_done limit w l) ls few h.1 (walked-line o limit w l few h.0 g)
 
-walked-first : (script : ScriptOf) → IsWalked script.opening (first_walk script None)
+pub walked-first : (script : ScriptOf) → IsWalked script.opening (first_walk script None)
 walked-first script =
     record { trace = refl; run = refl; rest = refl; sized = sized-start script.opening; counted = counted-start script.opening.libraries script.opening.callers 0 }
 

@@ -1,8 +1,10 @@
 //! The journal that a script determines, and a script's transcript over a journal.
 
-ghost use Rattle.std.specs.Prelude.{◌≡◌, ◌++◌, None, length, replicate, filter, IfOk, IfSome, OnOk};
+ghost use Rattle.std.specs.Prelude.{◌≡◌, ◌++◌, None, length, replicate, filter, true, IfOk, IfSome, OnOk};
+ghost use Rattle.dds_script.specs.Opening.{IsOpening};
 ghost use Rattle.dds_world.specs.Stands.{stands_in};
-ghost use Rattle.dds_walk.specs.Walk.{first_walk, open_call_of, open_calls, open_order_of, open_orders, plays_rest, steps, transcript};
+ghost use Rattle.dds_cluster.specs.Trace.{is_run};
+ghost use Rattle.dds_walk.specs.Walk.{ended, first_walk, open_call_of, open_calls, open_order_of, open_orders, plays_rest, steps, transcript};
 
 use crate::lines::{lines_done, take_rest};
 use crate::picking::Picking;
@@ -20,13 +22,23 @@ use dds_cluster::step::{EVENTS, Input, Journal, Step};
 use dds_cluster::trace::{Caller, Made, Told};
 use std::alloc::Global;
 
-/// The journal that a script determines: with its pickers, and no disk that fails.
-pub fn plain_steps(alloc: Global, script: &Script) -> Result<Journal, Memory>
-    ensures { IfOk result (λ journal. journal ≡ steps script.now) }
+/// The steps of a walk, and the lines that it printed.
+#[derive(Drop)]
+pub struct Walked {
+    pub journal: Journal,
+    pub lines: Vec<ReportLine>,
+}
+
+/// The journal that a script determines, with its pickers and no disk that fails, and the lines of the script's transcript
+/// over it. The run is made once.
+pub fn walk_script(alloc: Global, script: &Script) -> Result<Walked, Memory>
+    ensures journal { IfOk result (λ walked. walked.journal ≡ steps script.now) }
+    ensures run { IfOk result (λ walked. is_run script.now.opening walked.journal ≡ true) }
+    ensures lines { IfOk result (λ walked. walked.lines.items ≡ transcript script.now walked.journal) }
 {
     let mut walk = first_walk(alloc, script, None)?;
     lines_done(alloc, &mut walk, EVENTS, script.lines())?;
-    Ok(walk.steps)
+    ended(walk)
 }
 
 /// The lines of a script's transcript over a journal, which need not be a run. Where the journal follows the script, it
@@ -38,9 +50,18 @@ pub fn report(alloc: Global, script: &Script, journal: &Journal) -> Result<Vec<R
     let mut walk = first_walk(alloc, script, Some(rest))?;
     lines_done(alloc, &mut walk, EVENTS, script.lines())?;
     play_rest(alloc, &mut walk)?;
+    Ok(ended(walk)?.lines)
+}
+
+/// The steps of a walk at its end, and all its lines.
+fn ended(walk: Walk) -> Result<Walked, Memory>
+    ensures journal { IfOk result (λ walked. walked.journal ≡ walk.steps) }
+    ensures lines { IfOk result (λ walked. walked.lines.items ≡ ended walk) }
+{
     let Walk {
         trace,
         orders,
+        steps,
         mut lines,
         ..
     } = walk;
@@ -50,11 +71,15 @@ pub fn report(alloc: Global, script: &Script, journal: &Journal) -> Result<Vec<R
     let entries = count_entries(trace.made.as_slice(), trace.told.as_slice())?;
     lines.push(ReportLine::History { entries })?;
     lines.push(ReportLine::End)?;
-    Ok(lines.into_vec())
+    Ok(Walked {
+        journal: steps,
+        lines: lines.into_vec(),
+    })
 }
 
 fn first_walk(alloc: Global, script: &Script, rest: Option<Queue<Step>>) -> Result<Walk, Memory>
-    ensures { IfOk result (λ walk. walk ≡ first_walk script.now rest) }
+    ensures walk { IfOk result (λ walk. walk ≡ first_walk script.now rest) }
+    ensures kept { IfOk result (λ walk. IsOpening script.now.opening) }
 {
     let opening = script.opening();
     Ok(Walk {

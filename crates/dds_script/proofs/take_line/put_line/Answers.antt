@@ -1,11 +1,11 @@
-use Rattle.std.proofs.Common.{refl, sym}
-use Rattle.dds_script.proofs.Behind.{gate-fault, run-line}
+use Rattle.std.proofs.Common.{refl}
+use Rattle.dds_script.proofs.Behind.{gate-fault}
 use Rattle.dds_script.specs.Grammar.MovesBy.{line}
 use Rattle.dds_script.proofs.take_line.put_line.Goals as goal
 
 pub returns-in-Some : goal.returns-in-Some
-returns-in-Some c = gate-fault c.args.runs c.args.reader.now _ _ _ c.args.reader.now.place c.in-Some.kind refl c.in-Some.ensures c.requires.right
+returns-in-Some c = gate-fault c.args.reader.now _ _ c.args.reader.now.place c.in-Some.kind refl c.in-Some.ensures c.requires.right
 
 pub returns : goal.returns
 returns c =
-    (rw c.in_ok-push.ensures.ok (line c.args.reader.now _ c.args.line c.in_default.ensures c.requires.line), run-line c.args.runs _ _ _ c.args.line _ c.requires.right (sym c.if-not-runs_line.ensures))
+    rw c.in_ok-push.ensures.ok (line c.args.reader.now _ c.args.line c.in_default.ensures c.requires.line)
