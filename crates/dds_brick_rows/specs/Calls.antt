@@ -29,8 +29,8 @@ answer_of (Some value) = answer.Value value
 abbrev pub got : BrickState → NodeNo → Txn → ℕ → Option Refusal → BrickTurn
 got s from txn key None =
     record {
-        state = s;
-        out = record { letters = (from, letter.Got txn (answer_of (get s.pairs key))) ∷ []; points = point.Read txn (get s.pairs key) ∷ []; replies = [] }
+      state = s;
+      out = record { letters = (from, letter.Got txn (answer_of (get s.pairs key))) ∷ []; points = point.Read txn (get s.pairs key) ∷ []; replies = [] };
     }
 got s from txn key (Some refusal) = sends s ((from, letter.Got txn (answer.Refused refusal)) ∷ [])
 
@@ -68,8 +68,8 @@ flag_at s p = flag_of (get s.pairs (the_key p.op)) p.op
 abbrev pub applied : BrickState → Pending → BrickTurn
 applied s p =
     record {
-        state = record (noted s p.txn true) { pairs = after s.pairs p.op };
-        out = record { letters = []; points = point.Applied p (flag_at s p) ∷ []; replies = [] }
+      state = record (noted s p.txn true) { pairs = after s.pairs p.op };
+      out = record { letters = []; points = point.Applied p (flag_at s p) ∷ []; replies = [] };
     }
 
 abbrev pub commit_found : BrickState → NodeNo → Option Pending → BrickTurn

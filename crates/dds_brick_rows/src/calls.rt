@@ -18,7 +18,7 @@ use dds_states::turn::{CoreTurn, Point, PointList};
 use std::alloc::Global;
 
 /// Sends the refusal, or what the key is bound to.
-pub fn get(
+pub fn get_row(
     alloc: Global,
     state: &BrickState,
     from: NodeNo,
@@ -48,7 +48,7 @@ fn read(
     let found = state.pairs.get(key);
     let letter = Letter::Got {
         txn,
-        answer: answer(found)?,
+        answer: answer_of(found)?,
     };
     let mut turn = CoreTurn::letter(alloc, from, letter)?;
     turn.points.push(Point::Read {
@@ -58,7 +58,7 @@ fn read(
     Ok(turn)
 }
 
-fn answer(found: Option<&Value>) -> Result<Answer, Memory>
+fn answer_of(found: Option<&Value>) -> Result<Answer, Memory>
     ensures { IfOk result (λ answer. answer ≡ answer_of (option_copied found.entry)) }
 {
     match found {
@@ -77,7 +77,7 @@ fn copied(found: Option<&Value>) -> Result<Option<Value>, Memory>
 }
 
 /// Forgets outcomes below the bound, and votes no; or keeps the update as pending and votes yes.
-pub fn prepare(
+pub fn prepare_row(
     alloc: Global,
     state: &mut BrickState,
     from: NodeNo,
@@ -108,7 +108,7 @@ pub fn prepare(
 }
 
 /// Applies a transaction that was pending and notes it Committed.
-pub fn apply(alloc: Global, state: &mut BrickState, pending: Pending) -> Result<CoreTurn, Memory>
+pub fn applied(alloc: Global, state: &mut BrickState, pending: Pending) -> Result<CoreTurn, Memory>
     ensures state { OnOk result (state.new ≡ (applied state.old pending).state) }
     ensures out { IfOk result (λ turn. turn ≡ (applied state.old pending).out) }
 {
@@ -120,7 +120,7 @@ pub fn apply(alloc: Global, state: &mut BrickState, pending: Pending) -> Result<
 }
 
 /// Applies the transaction where it is pending, and tells its flag.
-pub fn commit(
+pub fn commit_row(
     alloc: Global,
     state: &mut BrickState,
     from: NodeNo,
@@ -141,7 +141,7 @@ pub fn commit(
 }
 
 /// Drops the transaction where it is pending and notes it Aborted, and says so in each case.
-pub fn abort(
+pub fn abort_row(
     alloc: Global,
     state: &mut BrickState,
     from: NodeNo,
@@ -157,7 +157,7 @@ pub fn abort(
 }
 
 /// Tells the leaf that covers the key, if there is one.
-pub fn map_ask(
+pub fn map_ask_row(
     alloc: Global,
     state: &BrickState,
     from: NodeNo,

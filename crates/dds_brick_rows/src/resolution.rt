@@ -9,7 +9,7 @@ ghost use Rattle.dds_states.specs.Turn.{to_each, unknown_others, both, letters_o
 ghost use Rattle.dds_brick_rows.specs.Calls.{dropped};
 ghost use Rattle.dds_brick_rows.specs.Resolution.{before, is_ready, is_commit, is_no, heard, unwaited, settled, outcome_row, verdict, decides, resolves_on, started, resolve, is_of, is_resolved, defers, help_row, query_row, is_awaited, with_news, resolving_goes, resolvings_go, all_hear, status_row};
 
-use crate::calls::apply;
+use crate::calls::applied;
 use dds_base::brick_list::BrickList;
 use dds_base::items::Items;
 use dds_base::memory::Memory;
@@ -71,7 +71,7 @@ fn is_no(status: TxnStatus) -> bool
 }
 
 /// The resolving with a status more.
-fn hear(mut resolving: Resolving, status: TxnStatus) -> Resolving
+fn heard(mut resolving: Resolving, status: TxnStatus) -> Resolving
     ensures { result ≡ heard resolving status }
 {
     resolving.saw_commit = resolving.saw_commit || is_commit(status);
@@ -80,7 +80,7 @@ fn hear(mut resolving: Resolving, status: TxnStatus) -> Resolving
 }
 
 /// The resolving that doesn't wait for a node any more.
-fn unwait(alloc: Global, mut resolving: Resolving, node: NodeNo) -> Result<Resolving, Memory>
+fn unwaited(alloc: Global, mut resolving: Resolving, node: NodeNo) -> Result<Resolving, Memory>
     ensures { IfOk result (λ r. r ≡ unwaited resolving node) }
 {
     resolving.waiting = without(alloc, resolving.waiting.as_slice(), node)?;
@@ -88,7 +88,7 @@ fn unwait(alloc: Global, mut resolving: Resolving, node: NodeNo) -> Result<Resol
 }
 
 /// Applies or aborts the transaction where it is pending.
-pub fn outcome(
+pub fn outcome_row(
     alloc: Global,
     state: &mut BrickState,
     txn: TxnNo,
@@ -101,7 +101,7 @@ pub fn outcome(
         return Ok(CoreTurn::new(alloc));
     };
     if commit {
-        return apply(alloc, state, pending);
+        return applied(alloc, state, pending);
     }
     state.locks.note(pending.txn, false)?;
     Ok(CoreTurn::new(alloc))
@@ -115,12 +115,12 @@ fn verdict(resolving: &Resolving) -> bool
 }
 
 /// Does what an outcome does, and tells the other members.
-fn decide(alloc: Global, state: &mut BrickState, resolving: &Resolving) -> Result<CoreTurn, Memory>
+fn decides(alloc: Global, state: &mut BrickState, resolving: &Resolving) -> Result<CoreTurn, Memory>
     ensures state { OnOk result (state.new ≡ (decides state.old resolving.now).state) }
     ensures out { IfOk result (λ turn. turn ≡ (decides state.old resolving.now).out) }
 {
     let commit = verdict(resolving);
-    let turn = outcome(alloc, state, resolving.txn, commit)?;
+    let turn = outcome_row(alloc, state, resolving.txn, commit)?;
     let others = unknown_others(alloc, &resolving.list, state.number, &state.known)?;
     let told = Letter::Outcome {
         txn: resolving.txn,
@@ -131,7 +131,7 @@ fn decide(alloc: Global, state: &mut BrickState, resolving: &Resolving) -> Resul
 }
 
 /// Goes on with a resolving that isn't in the state's list: decides where no member is waited for, and keeps it else.
-pub fn resolve_on(
+pub fn resolves_on(
     alloc: Global,
     state: &mut BrickState,
     resolving: Resolving,
@@ -140,14 +140,14 @@ pub fn resolve_on(
     ensures out { IfOk result (λ turn. turn ≡ (resolves_on state.old resolving).out) }
 {
     if resolving.waiting.is_empty() {
-        return decide(alloc, state, &resolving);
+        return decides(alloc, state, &resolving);
     }
     state.resolving.push(resolving)?;
     Ok(CoreTurn::new(alloc))
 }
 
 /// A new resolving, which has heard this brick's own status.
-fn start(
+fn started(
     alloc: Global,
     state: &BrickState,
     txn: TxnNo,
@@ -163,7 +163,7 @@ fn start(
         saw_commit: false,
         saw_no: false,
     };
-    Ok(hear(resolving, state.locks.status(txn)))
+    Ok(heard(resolving, state.locks.status(txn)))
 }
 
 fn ask_others(
@@ -192,8 +192,8 @@ pub fn resolve(
     ensures out { IfOk result (λ turn. turn ≡ (resolve state.old txn list.now).out) }
 {
     let asked = ask_others(alloc, state, txn, list)?;
-    let resolving = start(alloc, state, txn, list)?;
-    let next = resolve_on(alloc, state, resolving)?;
+    let resolving = started(alloc, state, txn, list)?;
+    let next = resolves_on(alloc, state, resolving)?;
     asked.with(next)
 }
 
@@ -204,7 +204,7 @@ pub fn is_resolved(state: &BrickState, txn: TxnNo) -> bool
     state.resolving.as_slice().iter().any(|r| r.txn == txn)
 }
 
-fn defer(
+fn defers(
     state: &mut BrickState,
     from: NodeNo,
     question: Question,
@@ -222,7 +222,7 @@ fn defer(
 }
 
 /// Resolves the transaction, unless that is being done here; or defers it while this brick can't be the resolver.
-pub fn help(
+pub fn help_row(
     alloc: Global,
     state: &mut BrickState,
     from: NodeNo,
@@ -233,7 +233,7 @@ pub fn help(
     ensures out { IfOk result (λ turn. turn ≡ (help_row state.old from txn list.now).out) }
 {
     if !is_ready(alloc, &state.known, txn, list, state.number)? {
-        defer(state, from, Question::Help, txn, list)?;
+        defers(state, from, Question::Help, txn, list)?;
         return Ok(CoreTurn::new(alloc));
     }
     if is_resolved(state, txn) {
@@ -243,7 +243,7 @@ pub fn help(
 }
 
 /// Tells the status; or defers it while the sender can't be the resolver.
-pub fn query(
+pub fn query_row(
     alloc: Global,
     state: &mut BrickState,
     from: NodeNo,
@@ -254,7 +254,7 @@ pub fn query(
     ensures out { IfOk result (λ turn. turn ≡ (query_row state.old from txn list.now).out) }
 {
     if !is_ready(alloc, &state.known, txn, list, from)? {
-        defer(state, from, Question::Query, txn, list)?;
+        defers(state, from, Question::Query, txn, list)?;
         return Ok(CoreTurn::new(alloc));
     }
     let status = state.locks.status(txn);
@@ -283,13 +283,13 @@ fn with_news(
     ensures { IfOk result (λ r. r ≡ with_news resolving from news.now) }
 {
     match news {
-        News::Stopped => unwait(alloc, resolving, from),
-        News::Told { txn: _, status } => unwait(alloc, hear(resolving, *status), from),
+        News::Stopped => unwaited(alloc, resolving, from),
+        News::Told { txn: _, status } => unwaited(alloc, heard(resolving, *status), from),
     }
 }
 
 /// One resolving, which isn't in the state's list, goes on by what a member tells.
-fn resolving_on(
+fn resolving_goes(
     alloc: Global,
     state: &mut BrickState,
     from: NodeNo,
@@ -304,10 +304,10 @@ fn resolving_on(
         return Ok(CoreTurn::new(alloc));
     }
     let resolving = with_news(alloc, resolving, from, news)?;
-    resolve_on(alloc, state, resolving)
+    resolves_on(alloc, state, resolving)
 }
 
-fn resolvings_on(
+fn resolvings_go(
     alloc: Global,
     state: &mut BrickState,
     from: NodeNo,
@@ -319,7 +319,7 @@ fn resolvings_on(
 {
     let mut turn = CoreTurn::new(alloc);
     for resolving in resolvings.into_vec() {
-        let next = resolving_on(alloc, state, from, news, resolving)?;
+        let next = resolving_goes(alloc, state, from, news, resolving)?;
         turn = turn.with(next)?;
     }
     Ok(turn)
@@ -327,7 +327,7 @@ fn resolvings_on(
 
 /// Each resolving that waits for what a member tells goes on, in the order of starting; those that go on waiting keep
 /// their places.
-pub fn hear_all(
+pub fn all_hear(
     alloc: Global,
     state: &mut BrickState,
     from: NodeNo,
@@ -337,11 +337,11 @@ pub fn hear_all(
     ensures out { IfOk result (λ turn. turn ≡ (all_hear state.old from news.now).out) }
 {
     let resolvings = std::mem::replace(&mut state.resolving, Items::new(alloc));
-    resolvings_on(alloc, state, from, news, resolvings)
+    resolvings_go(alloc, state, from, news, resolvings)
 }
 
 /// A member that is waited for tells how far it is.
-pub fn status(
+pub fn status_row(
     alloc: Global,
     state: &mut BrickState,
     from: NodeNo,
@@ -351,5 +351,5 @@ pub fn status(
     ensures state { OnOk result (state.new ≡ (status_row state.old from txn status).state) }
     ensures out { IfOk result (λ turn. turn ≡ (status_row state.old from txn status).out) }
 {
-    hear_all(alloc, state, from, &News::Told { txn, status })
+    all_hear(alloc, state, from, &News::Told { txn, status })
 }

@@ -62,7 +62,7 @@ pub fn split(leaves: &mut Maps, name: LeafName, low: Leaf, high: Leaf) -> Result
 
 /// Replaces the brick's leaf by one of the same name, or by a split's leaf and its sibling. It answers `Memory` too
 /// where the name is neither the same nor a half.
-pub fn replace(leaves: &mut Maps, own: &Leaf, leaf: &Leaf) -> Result<(), Memory>
+pub fn replaced(leaves: &mut Maps, own: &Leaf, leaf: &Leaf) -> Result<(), Memory>
     ensures { OnOk result (leaves.new ≡ replaced leaves.old own.now leaf.now) }
 {
     if own.name.depth() == leaf.name.depth() {
@@ -95,5 +95,5 @@ pub fn take(state: &mut BrickState, leaf: &Leaf) -> Result<(), Memory>
     if !may_take(state.number, &own, leaf, &state.known, free) {
         return Ok(());
     }
-    replace(&mut state.leaves, &own, leaf)
+    replaced(&mut state.leaves, &own, leaf)
 }

@@ -1,5 +1,6 @@
 -- What a library does for one call: how an attempt begins, how a newer map is looked for, and what each letter does.
-use Rattle.std.specs.Prelude.{ℕ, Bool, true, false, not, ◌==◌, ◌+◌, ◌%◌, ◌&&◌, List, [], ◌∷◌, ◌++◌, Option, Some, None, length, filter, map, min, slice_index, if◌then◌else◌}
+use Rattle.std.specs.Prelude.{ℕ, Bool, true, false, not, ◌==◌, ◌+◌, ◌%◌, ◌&&◌, List, [], ◌∷◌, ◌++◌, Option, Some, None, length, filter, map, min, slice_index}
+use Rattle.std.specs.Prelude.{if◌then◌else◌}
 use Rattle.std.specs.List.{list_all}
 use Rattle.dds_base.specs.Name.{Name, same_name}
 use Rattle.dds_base.specs.BrickList.{has}
@@ -80,7 +81,7 @@ abbrev pub asks : Desk → Request → Met → List NodeNo → CallTurn
 asks d r m [] = replies (counted d) (reply.Again m)
 asks d r m (n ∷ ns) =
     stays (counted d) (to_each (n ∷ ns) (letter.MapAsk (next_txn d) r.caller r.call (the_key r.op)))
-        (record { request = retried r; txn = next_txn d; phase = Asking (n ∷ ns) None m })
+    (record { request = retried r; txn = next_txn d; phase = Asking (n ∷ ns) None m })
 
 -- asks every brick for its leaf of the key; after three looks the call is answered Again
 abbrev pub ask : Desk → Request → Met → CallTurn
@@ -93,12 +94,12 @@ got_from members r = slice_index members (r.caller % length members)
 abbrev pub update_begins : Desk → Request → Leaf → List NodeNo → CallTurn
 update_begins d r leaf members =
     stays (counted d) (to_each members (letter.Prepare (next_txn d) r.caller r.call (below d) leaf.name leaf.stamp members r.op))
-        (record { request = r; txn = next_txn d; phase = Preparing leaf members members })
+    (record { request = r; txn = next_txn d; phase = Preparing leaf members members })
 
 abbrev pub get_begins : Desk → Request → Leaf → NodeNo → ℕ → CallTurn
 get_begins d r leaf brick key =
     stays (counted d) ((brick, letter.Get (next_txn d) r.caller r.call key leaf.name leaf.stamp) ∷ [])
-        (record { request = r; txn = next_txn d; phase = Getting leaf brick })
+    (record { request = r; txn = next_txn d; phase = Getting leaf brick })
 
 abbrev pub attempt_begins : Desk → Request → Leaf → List NodeNo → Op → CallTurn
 attempt_begins d r leaf members (op.Get key) = get_begins d r leaf (got_from members r) key

@@ -16,7 +16,7 @@ use dds_states::nodes::{NodeList, copy, group, numbers, to_each, unknown, unknow
 use std::alloc::Global;
 
 /// The call is answered.
-pub fn reply(alloc: Global, desk: &Desk, reply: Reply) -> Went
+pub fn replies(alloc: Global, desk: &Desk, reply: Reply) -> Went
     ensures { result ≡ (replies desk.now reply).went }
 {
     Went {
@@ -27,7 +27,7 @@ pub fn reply(alloc: Global, desk: &Desk, reply: Reply) -> Went
 }
 
 /// The call stays open.
-pub fn stay(desk: &Desk, letters: Outbox, call: OpenCall) -> Went
+pub fn stays(desk: &Desk, letters: Outbox, call: OpenCall) -> Went
     ensures { result ≡ (stays desk.now letters call).went }
 {
     Went {
@@ -58,7 +58,7 @@ fn live_bricks(alloc: Global, desk: &Desk) -> Result<NodeList, Memory>
 }
 
 /// A request that has looked for a newer map once more.
-pub fn retry(mut request: Request) -> Result<Request, Memory>
+pub fn retried(mut request: Request) -> Result<Request, Memory>
     ensures { IfOk result (λ again. again ≡ retried request) }
 {
     request.retries = request.retries.checked_add(1).ok_or(Memory)?;
@@ -66,7 +66,7 @@ pub fn retry(mut request: Request) -> Result<Request, Memory>
 }
 
 /// Asks these bricks, or answers where there are none.
-fn ask_all(
+fn asks(
     alloc: Global,
     desk: &mut Desk,
     request: Request,
@@ -78,7 +78,7 @@ fn ask_all(
 {
     let txn = next_attempt(desk)?;
     if bricks.is_empty() {
-        return Ok(reply(alloc, desk, Reply::Again(met)));
+        return Ok(replies(alloc, desk, Reply::Again(met)));
     }
     let question = Letter::MapAsk {
         txn,
@@ -88,7 +88,7 @@ fn ask_all(
     };
     let letters = to_each(alloc, bricks.as_slice(), &question)?;
     let call = OpenCall {
-        request: retry(request)?,
+        request: retried(request)?,
         txn,
         phase: Phase::Asking {
             waiting: bricks,
@@ -96,7 +96,7 @@ fn ask_all(
             met,
         },
     };
-    Ok(stay(desk, letters, call))
+    Ok(stays(desk, letters, call))
 }
 
 /// Asks every brick for its leaf of the key. After three looks the call is answered Again.
@@ -105,14 +105,14 @@ pub fn ask(alloc: Global, desk: &mut Desk, request: Request, met: Met) -> Result
     ensures went { IfOk result (λ went. went ≡ (ask desk.old request met).went) }
 {
     if request.retries == RETRIES {
-        return Ok(reply(alloc, desk, Reply::Again(met)));
+        return Ok(replies(alloc, desk, Reply::Again(met)));
     }
     let bricks = live_bricks(alloc, desk)?;
-    ask_all(alloc, desk, request, met, bricks)
+    asks(alloc, desk, request, met, bricks)
 }
 
 /// A get asks one live member.
-fn begin_get(
+fn get_begins(
     alloc: Global,
     desk: &mut Desk,
     request: Request,
@@ -142,11 +142,11 @@ fn begin_get(
         txn,
         phase,
     };
-    Ok(stay(desk, letters, call))
+    Ok(stays(desk, letters, call))
 }
 
 /// An update asks all live members to prepare.
-fn begin_update(
+fn update_begins(
     alloc: Global,
     desk: &mut Desk,
     request: Request,
@@ -183,7 +183,7 @@ fn begin_update(
         txn,
         phase,
     };
-    Ok(stay(desk, letters, call))
+    Ok(stays(desk, letters, call))
 }
 
 /// The member that a get of this caller asks.
@@ -195,7 +195,7 @@ fn got_from(members: &[NodeNo], request: &Request) -> NodeNo
 }
 
 /// The letters and the phase by which an attempt begins.
-fn begin_attempt(
+fn attempt_begins(
     alloc: Global,
     desk: &mut Desk,
     request: Request,
@@ -211,14 +211,14 @@ fn begin_attempt(
         Op::Get { key } => {
             let key = *key;
             let brick = got_from(members.as_slice(), &request);
-            begin_get(alloc, desk, request, leaf, brick, key)
+            get_begins(alloc, desk, request, leaf, brick, key)
         }
-        _ => begin_update(alloc, desk, request, leaf, members),
+        _ => update_begins(alloc, desk, request, leaf, members),
     }
 }
 
 /// Begins an attempt at these members, or asks for a newer map where there are none.
-fn begin_with(
+fn begins_with(
     alloc: Global,
     desk: &mut Desk,
     request: Request,
@@ -232,7 +232,7 @@ fn begin_with(
         let brick = first_member(leaf);
         return ask(alloc, desk, request, Met::Stopped { brick });
     }
-    begin_attempt(alloc, desk, request, leaf, members)
+    attempt_begins(alloc, desk, request, leaf, members)
 }
 
 fn first_member(leaf: &Leaf) -> NodeNo
@@ -256,7 +256,7 @@ pub fn begin(alloc: Global, desk: &mut Desk, request: Request) -> Result<Went, M
         });
     };
     let members = unknown_members(alloc, &leaf.list, &desk.known)?;
-    begin_with(alloc, desk, request, &leaf, members)
+    begins_with(alloc, desk, request, &leaf, members)
 }
 
 /// All bricks have told: the newest leaf is adopted and an attempt begins, or the call is answered Again.
@@ -271,7 +271,7 @@ pub fn go_on_with(
     ensures went { IfOk result (λ went. went ≡ (told_all desk.old request newest met).went) }
 {
     match newest {
-        None => Ok(reply(alloc, desk, Reply::Again(met))),
+        None => Ok(replies(alloc, desk, Reply::Again(met))),
         Some(leaf) => {
             desk.map.adopt(leaf)?;
             begin(alloc, desk, request)

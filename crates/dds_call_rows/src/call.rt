@@ -5,7 +5,7 @@ ghost use Rattle.std.specs.List.{list_all};
 ghost use Rattle.dds_base.specs.NodeSet.{has_node};
 ghost use Rattle.dds_call_rows.specs.Library.{stays, got_with, got_in, commits, prepared_on, aborts, vote_counted, vote_in, first_flag, applied_on, applied_in, aborted_on, aborted_in, newer_of, newest_of, told_on, told_in};
 
-use crate::attempt::{ask, begin, go_on_with, reply, stay};
+use crate::attempt::{ask, begin, go_on_with, replies, stays};
 use crate::refused::{denied, refused};
 use dds_base::brick_list::BrickList;
 use dds_base::leaf::Leaf;
@@ -26,11 +26,11 @@ use std::alloc::Global;
 pub fn unchanged(alloc: Global, desk: &Desk, call: OpenCall) -> Went
     ensures { result ≡ (stays desk.now [] call).went }
 {
-    stay(desk, Outbox::new(alloc), call)
+    stays(desk, Outbox::new(alloc), call)
 }
 
 /// The answer of a get's brick.
-fn answered(
+fn got_with(
     alloc: Global,
     desk: &mut Desk,
     call: OpenCall,
@@ -41,17 +41,17 @@ fn answered(
     ensures went { IfOk result (λ went. went ≡ (got_with desk.old call from answer.now).went) }
 {
     match answer {
-        Answer::Absent => Ok(reply(alloc, desk, Reply::Absent)),
+        Answer::Absent => Ok(replies(alloc, desk, Reply::Absent)),
         Answer::Value(value) => {
             let value = value.copy()?;
-            Ok(reply(alloc, desk, Reply::Value(value)))
+            Ok(replies(alloc, desk, Reply::Value(value)))
         }
         Answer::Refused(refusal) => refused(alloc, desk, call.request, from, refusal),
     }
 }
 
 /// `Got`: while getting, the answer is the reply.
-pub fn got(
+pub fn got_in(
     alloc: Global,
     desk: &mut Desk,
     call: OpenCall,
@@ -62,13 +62,13 @@ pub fn got(
     ensures went { IfOk result (λ went. went ≡ (got_in desk.old call from answer.now call.phase).went) }
 {
     match &call.phase {
-        Phase::Getting { leaf: _, brick: _ } => answered(alloc, desk, call, from, answer),
+        Phase::Getting { leaf: _, brick: _ } => got_with(alloc, desk, call, from, answer),
         _ => Ok(unchanged(alloc, desk, call)),
     }
 }
 
 /// All members have voted yes: the update is decided, and the live ones are told to commit.
-fn commit(
+fn commits(
     alloc: Global,
     desk: &Desk,
     call: OpenCall,
@@ -95,7 +95,7 @@ fn commit(
         txn,
         phase,
     };
-    Ok(stay(desk, letters, call))
+    Ok(stays(desk, letters, call))
 }
 
 /// The call with another phase.
@@ -110,7 +110,7 @@ pub fn in_phase(call: OpenCall, phase: Phase) -> OpenCall
 }
 
 /// Goes on where no vote is waited for any more.
-pub fn prepare_on(
+pub fn prepared_on(
     alloc: Global,
     desk: &Desk,
     call: OpenCall,
@@ -121,7 +121,7 @@ pub fn prepare_on(
     ensures { IfOk result (λ went. went ≡ (prepared_on desk.now call leaf list waiting).went) }
 {
     if waiting.is_empty() {
-        return commit(alloc, desk, call, leaf, list);
+        return commits(alloc, desk, call, leaf, list);
     }
     let phase = Phase::Preparing {
         leaf,
@@ -132,7 +132,7 @@ pub fn prepare_on(
 }
 
 /// A member voted no: the live ones are told to abort.
-fn abort(
+fn aborts(
     alloc: Global,
     desk: &Desk,
     call: OpenCall,
@@ -149,10 +149,10 @@ fn abort(
         denial: *denial,
         brick: from,
     };
-    Ok(stay(desk, letters, in_phase(call, phase)))
+    Ok(stays(desk, letters, in_phase(call, phase)))
 }
 
-fn count_vote(
+fn vote_counted(
     alloc: Global,
     desk: &Desk,
     call: OpenCall,
@@ -168,14 +168,14 @@ fn count_vote(
     match vote {
         Ballot::Yes => {
             let waiting = without(alloc, waiting, from)?;
-            prepare_on(alloc, desk, call, leaf, list, waiting)
+            prepared_on(alloc, desk, call, leaf, list, waiting)
         }
-        Ballot::No(denial) => abort(alloc, desk, call, &list, from, denial),
+        Ballot::No(denial) => aborts(alloc, desk, call, &list, from, denial),
     }
 }
 
 /// `Vote`, while preparing, of a member that is waited for.
-pub fn vote(
+pub fn vote_in(
     alloc: Global,
     desk: &Desk,
     call: OpenCall,
@@ -197,7 +197,7 @@ pub fn vote(
     }
     let (leaf, list) = (*leaf, *list);
     let waiting = copy(alloc, waiting.as_slice())?;
-    count_vote(
+    vote_counted(
         alloc,
         desk,
         call,
@@ -222,7 +222,7 @@ fn applied_on(
 {
     if waiting.is_empty() {
         let answer = reply_with(&call.request.op, was);
-        return Ok(reply(alloc, desk, answer));
+        return Ok(replies(alloc, desk, answer));
     }
     let phase = Phase::Committing {
         leaf,
@@ -234,7 +234,7 @@ fn applied_on(
 }
 
 /// `Applied`, while committing: the first flag is kept, and is the reply when all have applied.
-pub fn applied(
+pub fn applied_in(
     alloc: Global,
     desk: &Desk,
     call: OpenCall,
@@ -291,7 +291,12 @@ pub fn aborted_on(
 }
 
 /// `Aborted`, while aborting: when all have aborted the call is refused.
-pub fn aborted(alloc: Global, desk: &mut Desk, call: OpenCall, from: NodeNo) -> Result<Went, Memory>
+pub fn aborted_in(
+    alloc: Global,
+    desk: &mut Desk,
+    call: OpenCall,
+    from: NodeNo,
+) -> Result<Went, Memory>
     ensures desk { OnOk result (desk.new ≡ (aborted_in desk.old call from call.phase).desk) }
     ensures went { IfOk result (λ went. went ≡ (aborted_in desk.old call from call.phase).went) }
 {
@@ -356,7 +361,7 @@ pub fn told_on(
 }
 
 /// `MapTell`, while asking: the newest leaf is kept.
-pub fn told(
+pub fn told_in(
     alloc: Global,
     desk: &mut Desk,
     call: OpenCall,

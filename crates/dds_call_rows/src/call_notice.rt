@@ -6,8 +6,8 @@ ghost use Rattle.std.specs.List.{list_all};
 ghost use Rattle.dds_base.specs.NodeSet.{has_node};
 ghost use Rattle.dds_call_rows.specs.Library.{prepared_without, lost_or_applied, committed_without, call_concerns, goes_without, notice_in};
 
-use crate::attempt::{ask, begin, reply};
-use crate::call::{aborted_on, in_phase, prepare_on, told_on, unchanged};
+use crate::attempt::{ask, begin, replies};
+use crate::call::{aborted_on, in_phase, prepared_on, told_on, unchanged};
 use dds_base::brick_list::BrickList;
 use dds_base::leaf::Leaf;
 use dds_base::memory::Memory;
@@ -34,7 +34,7 @@ fn all_known(alloc: Global, known: &NodeSet, group: &BrickList) -> Result<bool, 
 }
 
 /// A call that waited for the node's vote.
-fn prepare_without(
+fn prepared_without(
     alloc: Global,
     desk: &mut Desk,
     call: OpenCall,
@@ -49,7 +49,7 @@ fn prepare_without(
     if all_known(alloc, &desk.known, &list)? {
         return ask(alloc, desk, call.request, Met::Stopped { brick: node });
     }
-    prepare_on(alloc, desk, call, leaf, list, waiting)
+    prepared_on(alloc, desk, call, leaf, list, waiting)
 }
 
 fn lost_or_applied(
@@ -62,13 +62,13 @@ fn lost_or_applied(
     ensures { result ≡ (lost_or_applied desk.now call leaf was).went }
 {
     match was {
-        None => reply(alloc, desk, Reply::Lost { name: leaf.name }),
-        Some(was) => reply(alloc, desk, reply_with(&call.request.op, was)),
+        None => replies(alloc, desk, Reply::Lost { name: leaf.name }),
+        Some(was) => replies(alloc, desk, reply_with(&call.request.op, was)),
     }
 }
 
 /// A call that waited for the node to apply.
-fn commit_without(
+fn committed_without(
     alloc: Global,
     desk: &Desk,
     call: OpenCall,
@@ -92,7 +92,7 @@ fn commit_without(
 }
 
 /// Whether the notice concerns a call: the node was asked or is waited for.
-fn concerns(phase: &Phase, node: NodeNo) -> bool
+fn call_concerns(phase: &Phase, node: NodeNo) -> bool
     ensures { result ≡ call_concerns phase.now node }
 {
     match phase {
@@ -122,7 +122,12 @@ fn concerns(phase: &Phase, node: NodeNo) -> bool
 }
 
 /// The call goes on without the node.
-fn go_on(alloc: Global, desk: &mut Desk, call: OpenCall, node: NodeNo) -> Result<Went, Memory>
+fn goes_without(
+    alloc: Global,
+    desk: &mut Desk,
+    call: OpenCall,
+    node: NodeNo,
+) -> Result<Went, Memory>
     ensures desk { OnOk result (desk.new ≡ (goes_without desk.old call node call.phase).desk) }
     ensures went { IfOk result (λ went. went ≡ (goes_without desk.old call node call.phase).went) }
 {
@@ -135,7 +140,7 @@ fn go_on(alloc: Global, desk: &mut Desk, call: OpenCall, node: NodeNo) -> Result
         } => {
             let (leaf, list) = (*leaf, *list);
             let waiting = without(alloc, waiting.as_slice(), node)?;
-            prepare_without(alloc, desk, call, node, leaf, list, waiting)
+            prepared_without(alloc, desk, call, node, leaf, list, waiting)
         }
         Phase::Committing {
             leaf,
@@ -145,7 +150,7 @@ fn go_on(alloc: Global, desk: &mut Desk, call: OpenCall, node: NodeNo) -> Result
         } => {
             let (leaf, list, was) = (*leaf, *list, *was);
             let waiting = without(alloc, waiting.as_slice(), node)?;
-            commit_without(alloc, desk, call, leaf, list, waiting, was)
+            committed_without(alloc, desk, call, leaf, list, waiting, was)
         }
         Phase::Aborting {
             waiting,
@@ -169,12 +174,17 @@ fn go_on(alloc: Global, desk: &mut Desk, call: OpenCall, node: NodeNo) -> Result
 }
 
 /// A notice at one call.
-pub fn notice(alloc: Global, desk: &mut Desk, call: OpenCall, node: NodeNo) -> Result<Went, Memory>
+pub fn notice_in(
+    alloc: Global,
+    desk: &mut Desk,
+    call: OpenCall,
+    node: NodeNo,
+) -> Result<Went, Memory>
     ensures desk { OnOk result (desk.new ≡ (notice_in desk.old call node).desk) }
     ensures went { IfOk result (λ went. went ≡ (notice_in desk.old call node).went) }
 {
-    if !concerns(&call.phase, node) {
+    if !call_concerns(&call.phase, node) {
         return Ok(unchanged(alloc, desk, call));
     }
-    go_on(alloc, desk, call, node)
+    goes_without(alloc, desk, call, node)
 }

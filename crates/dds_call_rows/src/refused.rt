@@ -6,7 +6,7 @@ ghost use Rattle.dds_base.specs.Op.{the_key};
 ghost use Rattle.dds_states.specs.Leaf.{leaf_for};
 ghost use Rattle.dds_call_rows.specs.Library.{behind, adopts, begin, retried, same_leaf, repairs, differs, stale, refused, denied};
 
-use crate::attempt::{ask, begin, reply, retry};
+use crate::attempt::{ask, begin, replies, retried};
 use dds_base::leaf::Leaf;
 use dds_base::memory::Memory;
 use dds_base::number::NodeNo;
@@ -58,7 +58,7 @@ fn adopt(alloc: Global, desk: &mut Desk, request: Request, theirs: Leaf) -> Resu
 }
 
 /// Repairs the brick's map or the library's own, and begins again.
-fn repair(
+fn repairs(
     alloc: Global,
     desk: &mut Desk,
     request: Request,
@@ -99,12 +99,12 @@ fn retry_with(
     ensures went { IfOk result (λ went. went ≡ (repairs desk.old (retried request) from theirs (leaf_for desk.old.map (the_key request.op))).went) }
 {
     let mine = mine(desk, request.op.key());
-    let again = retry(request)?;
-    repair(alloc, desk, again, from, theirs, mine)
+    let again = retried(request)?;
+    repairs(alloc, desk, again, from, theirs, mine)
 }
 
 /// The brick's leaf is another than the one that was used.
-fn differ(
+fn differs(
     alloc: Global,
     desk: &mut Desk,
     request: Request,
@@ -116,7 +116,7 @@ fn differ(
 {
     if request.retries == RETRIES {
         let met = Met::Stale { brick: from };
-        return Ok(reply(alloc, desk, Reply::Again(met)));
+        return Ok(replies(alloc, desk, Reply::Again(met)));
     }
     retry_with(alloc, desk, request, from, theirs)
 }
@@ -134,7 +134,7 @@ fn stale(
 {
     match theirs {
         None => ask(alloc, desk, request, Met::Stale { brick: from }),
-        Some(theirs) => differ(alloc, desk, request, from, theirs),
+        Some(theirs) => differs(alloc, desk, request, from, theirs),
     }
 }
 
@@ -150,8 +150,8 @@ pub fn refused(
     ensures went { IfOk result (λ went. went ≡ (refused desk.old request from refusal.now).went) }
 {
     match refusal {
-        Refusal::Lease => Ok(reply(alloc, desk, Reply::Again(Met::Lease { brick: from }))),
-        Refusal::Lock => Ok(reply(alloc, desk, Reply::Again(Met::Lock { brick: from }))),
+        Refusal::Lease => Ok(replies(alloc, desk, Reply::Again(Met::Lease { brick: from }))),
+        Refusal::Lock => Ok(replies(alloc, desk, Reply::Again(Met::Lock { brick: from }))),
         Refusal::Stale { leaf } => stale(alloc, desk, request, from, *leaf),
     }
 }
@@ -169,6 +169,6 @@ pub fn denied(
 {
     match denial {
         Denial::Refused(refusal) => refused(alloc, desk, request, from, refusal),
-        Denial::Full => Ok(reply(alloc, desk, Reply::Full { brick: from })),
+        Denial::Full => Ok(replies(alloc, desk, Reply::Full { brick: from })),
     }
 }

@@ -1,6 +1,7 @@
 -- When a step is possible, and what is kept of a run.
 pub use Rattle.dds_cluster.specs.Lists.{is_applied, is_read_of, is_answer, is_asked}
-use Rattle.std.specs.Prelude.{ℕ, ◌+◌, ◌%◌, Bool, true, false, not, ◌&&◌, ◌==◌, List, [], ◌∷◌, ◌++◌, Option, Some, None, is_none, is_some, length, nat_lt, nat_le, slice_get, slice_set, if◌then◌else◌, zero, suc}
+use Rattle.std.specs.Prelude.{ℕ, ◌+◌, ◌%◌, Bool, true, false, not, ◌&&◌, ◌==◌, List, [], ◌∷◌, ◌++◌, Option, Some, None, is_none, is_some, length, nat_lt}
+use Rattle.std.specs.Prelude.{nat_le, slice_get, slice_set, if◌then◌else◌, zero, suc}
 use Rattle.dds_base.specs.Op.{is_get}
 use Rattle.dds_base.specs.declared.number.CallNo.{CallNo}
 use Rattle.dds_base.specs.declared.op.Order.{Order}
@@ -142,12 +143,12 @@ all_kept made (m ∷ ms) = kept made m ++ all_kept (made ++ kept made m) ms
 abbrev pub adds : Trace → Step → WorldTurn → Trace
 adds t s r =
     record {
-        world = r.world;
-        steps = t.steps + 1;
-        callers = all_closed (opened_by t.callers s) r.replies;
-        asked = t.asked ++ asked_by t.steps s;
-        made = t.made ++ all_kept t.made r.made;
-        told = t.told ++ told_at t.steps r.replies
+      world = r.world;
+      steps = t.steps + 1;
+      callers = all_closed (opened_by t.callers s) r.replies;
+      asked = t.asked ++ asked_by t.steps s;
+      made = t.made ++ all_kept t.made r.made;
+      told = t.told ++ told_at t.steps r.replies;
     }
 
 -- a run with one step more; a step that isn't possible does nothing

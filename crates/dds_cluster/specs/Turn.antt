@@ -83,18 +83,18 @@ points_made at l (p ∷ ps) = point_made at l p ++ points_made at l ps
 abbrev pub brick_does : World → ℕ → BrickTurn → List Made → WorldTurn
 brick_does w node t made =
     record {
-        world = send (record w { bricks = slice_set w.bricks node t.state }) node t.out.letters;
-        made = made;
-        replies = t.out.replies
+      world = send (record w { bricks = slice_set w.bricks node t.state }) node t.out.letters;
+      made = made;
+      replies = t.out.replies;
     }
 
 -- a library's turn in the cluster
 abbrev pub library_does : World → ℕ → LibraryTurn → WorldTurn
 library_does w node t =
     record {
-        world = send (record w { libraries = slice_set w.libraries (node - 64) t.state }) (length w.bricks + (node - 64)) t.out.letters;
-        made = [];
-        replies = t.out.replies
+      world = send (record w { libraries = slice_set w.libraries (node - 64) t.state }) (length w.bricks + (node - 64)) t.out.letters;
+      made = [];
+      replies = t.out.replies;
     }
 
 abbrev pub brick_handles : World → ℕ → NodeNo → NodeNo → Letter → BrickState → WorldTurn

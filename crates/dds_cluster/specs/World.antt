@@ -1,5 +1,6 @@
 -- The cluster before its first step, and its outboxes and links.
-use Rattle.std.specs.Prelude.{ℕ, ◌+◌, ◌-◌, ◌==◌, Bool, true, false, List, [], ◌∷◌, ◌++◌, Option, None, length, filter, nat_lt, replicate, slice_get, slice_index_or, slice_set, if◌then◌else◌, zero, suc, refl}
+use Rattle.std.specs.Prelude.{ℕ, ◌+◌, ◌-◌, ◌==◌, Bool, true, false, List, [], ◌∷◌, ◌++◌, Option, None, length, filter, nat_lt, replicate, slice_get}
+use Rattle.std.specs.Prelude.{slice_index_or, slice_set, if◌then◌else◌, zero, suc, refl}
 use Rattle.std.specs.FinMap.{empty}
 use Rattle.std.specs.Coded.{Coded, code_by, coded×, coded_ℕ, coded_list}
 use Rattle.dds_base.specs.BrickList.{has}
@@ -30,14 +31,14 @@ pub record World : Type 0 where
 abbrev pub world_code : Coded World
 world_code =
     code_by
-        (List BrickState × (List LibraryState × (List (List Message) × (List (List (List Message)) × ℕ))))
-        (coded× (coded_list brick.the_row.coded)
-            (coded× (coded_list library.the_row.coded)
-                (coded× (coded_list (coded_list message.the_row.coded))
-                    (coded× (coded_list (coded_list (coded_list message.the_row.coded))) coded_ℕ))))
-        (λ w. (w.bricks, (w.libraries, (w.outboxes, (w.links, w.made)))))
-        (λ p. record { bricks = p.0; libraries = p.1.0; outboxes = p.1.1.0; links = p.1.1.1.0; made = p.1.1.1.1 })
-        (λ _. refl)
+    (List BrickState × (List LibraryState × (List (List Message) × (List (List (List Message)) × ℕ))))
+    (coded× (coded_list brick.the_row.coded)
+    (coded× (coded_list library.the_row.coded)
+    (coded× (coded_list (coded_list message.the_row.coded))
+    (coded× (coded_list (coded_list (coded_list message.the_row.coded))) coded_ℕ))))
+    (λ w. (w.bricks, (w.libraries, (w.outboxes, (w.links, w.made)))))
+    (λ p. record { bricks = p.0; libraries = p.1.0; outboxes = p.1.1.0; links = p.1.1.1.0; made = p.1.1.1.1 })
+    (λ _. refl)
 
 -- a node's place: bricks 0 to 63 come first, then the libraries
 abbrev pub place : World → ℕ → ℕ
@@ -88,17 +89,17 @@ all_nodes w = numbers_from (length w.bricks) 0 ++ numbers_from (length w.librari
 abbrev pub emptied : ℕ → BrickState
 emptied n =
     record {
-        number = n;
-        stopped = true;
-        known = no_nodes;
-        leaves = empty;
-        pairs = empty;
-        locks = record { pending = []; leases = []; outcomes = empty };
-        deferred = [];
-        resolving = [];
-        order = None;
-        orders = 0;
-        made = 0
+      number = n;
+      stopped = true;
+      known = no_nodes;
+      leaves = empty;
+      pairs = empty;
+      locks = record { pending = []; leases = []; outcomes = empty };
+      deferred = [];
+      resolving = [];
+      order = None;
+      orders = 0;
+      made = 0;
     }
 
 -- a brick opens with the opening leaves that list it, and no pairs
@@ -114,13 +115,13 @@ new_bricks leaves (suc k) n = new_brick leaves n ∷ new_bricks leaves k (n + 1)
 abbrev pub new_library : OpeningOf → ℕ → LibraryState
 new_library o n =
     record {
-        number = 64 + n;
-        stopped = false;
-        known = no_nodes;
-        bricks = o.bricks;
-        map = put_all (put_all empty o.leaves) (filter (λ l. l.stamp.maker == 64 + n) o.old);
-        next = 0;
-        calls = []
+      number = 64 + n;
+      stopped = false;
+      known = no_nodes;
+      bricks = o.bricks;
+      map = put_all (put_all empty o.leaves) (filter (λ l. l.stamp.maker == 64 + n) o.old);
+      next = 0;
+      calls = [];
     }
 
 abbrev pub new_libraries : OpeningOf → ℕ → ℕ → List LibraryState
@@ -131,9 +132,9 @@ new_libraries o (suc k) n = new_library o n ∷ new_libraries o k (n + 1)
 abbrev pub opening_world : OpeningOf → World
 opening_world o =
     record {
-        bricks = new_bricks o.leaves o.bricks 0;
-        libraries = new_libraries o o.libraries 0;
-        outboxes = replicate (o.bricks + o.libraries) [];
-        links = replicate (o.bricks + o.libraries) (replicate (o.bricks + o.libraries) []);
-        made = 0
+      bricks = new_bricks o.leaves o.bricks 0;
+      libraries = new_libraries o o.libraries 0;
+      outboxes = replicate (o.bricks + o.libraries) [];
+      links = replicate (o.bricks + o.libraries) (replicate (o.bricks + o.libraries) []);
+      made = 0;
     }

@@ -36,59 +36,59 @@ name bits depth = record { bits = bits; depth = depth }
 abbrev whole : List ℕ → Leaf
 whole list =
     record {
-        name = record { bits = 0; depth = 0 };
-        epoch = 1;
-        stamp = record { maker = 255; count = 0 };
-        prev = record { maker = 255; count = 0 };
-        list = list
+      name = record { bits = 0; depth = 0 };
+      epoch = 1;
+      stamp = record { maker = 255; count = 0 };
+      prev = record { maker = 255; count = 0 };
+      list = list;
     }
 
 -- the leaf that brick 1 makes of the one that brick 0 alone serves, with these members
 abbrev joined_leaf : List ℕ → Leaf
 joined_leaf list =
     record {
-        name = record { bits = 0; depth = 0 };
-        epoch = 2;
-        stamp = record { maker = 1; count = 0 };
-        prev = record { maker = 255; count = 0 };
-        list = list
+      name = record { bits = 0; depth = 0 };
+      epoch = 2;
+      stamp = record { maker = 1; count = 0 };
+      prev = record { maker = 255; count = 0 };
+      list = list;
     }
 
 abbrev brick_with : NodeSet → OutcomeMap → BrickState
 brick_with known outcomes =
     record {
-        number = 0;
-        stopped = false;
-        known = known;
-        leaves = put empty (whole (0 ∷ []));
-        pairs = empty;
-        locks = record { pending = []; leases = []; outcomes = outcomes };
-        deferred = [];
-        resolving = [];
-        order = None;
-        orders = 0;
-        made = 0
+      number = 0;
+      stopped = false;
+      known = known;
+      leaves = put empty (whole (0 ∷ []));
+      pairs = empty;
+      locks = record { pending = []; leases = []; outcomes = outcomes };
+      deferred = [];
+      resolving = [];
+      order = None;
+      orders = 0;
+      made = 0;
     }
 
 abbrev library_with : ℕ → List OpenCall → LibraryState
 library_with next calls =
     record {
-        number = 64;
-        stopped = false;
-        known = no_nodes;
-        bricks = 2;
-        map = put empty (whole (0 ∷ 1 ∷ []));
-        next = next;
-        calls = calls
+      number = 64;
+      stopped = false;
+      known = no_nodes;
+      bricks = 2;
+      map = put empty (whole (0 ∷ 1 ∷ []));
+      next = next;
+      calls = calls;
     }
 
 -- a prepare forgets outcomes below its bound
 abbrev after_prepare : CallNo → BrickState
 after_prepare call =
     (brick_turn
-        (brick_with no_nodes (insert (insert empty (record { library = 64; number = 2 }) false) (record { library = 64; number = 3 }) false))
-        64
-        (letter.Prepare (record { library = 64; number = 5 }) 0 call 3 (whole (0 ∷ [])).name (whole (0 ∷ [])).stamp (0 ∷ []) (op.Remove 7))).state
+    (brick_with no_nodes (insert (insert empty (record { library = 64; number = 2 }) false) (record { library = 64; number = 3 }) false))
+    64
+    (letter.Prepare (record { library = 64; number = 5 }) 0 call 3 (whole (0 ∷ [])).name (whole (0 ∷ [])).stamp (0 ∷ []) (op.Remove 7))).state
 
 pub forgets-below : (call : CallNo) → status (after_prepare call).locks (record { library = 64; number = 2 }) ≡ txn_status.NotPrepared
 forgets-below call = refl

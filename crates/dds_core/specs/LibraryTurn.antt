@@ -1,5 +1,6 @@
 -- What a library does: a call is opened, and one definition for each letter.
-use Rattle.std.specs.Prelude.{ℕ, ◌+◌, ◌-◌, ◌^◌, ◌==◌, Bool, false, List, [], ◌∷◌, ◌++◌, Option, Some, None, map, min, position, slice_get, option_to_list, if◌then◌else◌}
+use Rattle.std.specs.Prelude.{ℕ, ◌+◌, ◌-◌, ◌^◌, ◌==◌, Bool, false, List, [], ◌∷◌, ◌++◌, Option, Some, None, map, min, position, slice_get, option_to_list}
+use Rattle.std.specs.Prelude.{if◌then◌else◌}
 use Rattle.std.specs.List.{remove, insert}
 use Rattle.dds_base.specs.NodeSet.{with_node}
 use Rattle.dds_base.specs.Number.{Txn, same_txn}
@@ -37,9 +38,9 @@ least_attempt cs = least_of (2 ^ 64 - 1) cs
 abbrev pub desk_of : LibraryState → List OpenCall → Desk
 desk_of s others =
     record {
-        map = s.map;
-        known = s.known;
-        numbers = record { library = s.number; bricks = s.bricks; next = s.next; below = least_attempt others }
+      map = s.map;
+      known = s.known;
+      numbers = record { library = s.number; bricks = s.bricks; next = s.next; below = least_attempt others };
     }
 
 -- the library after one call's turn, with these open calls
@@ -63,8 +64,8 @@ new_request caller call o = record { caller = caller; call = call; op = o; retri
 abbrev pub input_turn : LibraryState → Request → CallTurn → LibraryTurn
 input_turn s r t =
     record {
-        state = after_turn s t.desk (s.calls ++ option_to_list t.went.call);
-        out = given t.went r (record { library = s.number; number = s.next })
+      state = after_turn s t.desk (s.calls ++ option_to_list t.went.call);
+      out = given t.went r (record { library = s.number; number = s.next });
     }
 
 abbrev pub library_input : LibraryState → ℕ → CallNo → Op → LibraryTurn

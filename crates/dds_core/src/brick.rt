@@ -3,18 +3,18 @@
 ghost use Rattle.std.specs.Prelude.{◌≡◌, IfOk, OnOk};
 ghost use Rattle.dds_core.specs.Brick.{live_brick_turn, brick_turn, brick_input};
 
-use crate::notice::notice;
+use crate::notice::notice_row;
 use dds_base::memory::Memory;
 use dds_base::number::NodeNo;
 use dds_base::op::Order;
 use dds_base::pending::Pending;
-use dds_brick_rows::calls::{abort, commit, get, map_ask, prepare};
-use dds_brick_rows::resolution::{help, outcome, query, status};
+use dds_brick_rows::calls::{abort_row, commit_row, get_row, map_ask_row, prepare_row};
+use dds_brick_rows::resolution::{help_row, outcome_row, query_row, status_row};
 use dds_brick_rows::take::take;
 use dds_letters::letter::Letter;
-use dds_order_rows::orders::{copy_ask, install, lease, release};
-use dds_order_rows::own_letters::{copy_part, granted, installed, lease_refused};
-use dds_order_rows::own_order::{join, split};
+use dds_order_rows::orders::{copy_ask_row, install_row, lease_row, release_row};
+use dds_order_rows::own_letters::{copy_part_row, granted_row, installed_row, lease_refused_row};
+use dds_order_rows::own_order::{join_order, split_order};
 use dds_states::brick_state::BrickState;
 use dds_states::turn::CoreTurn;
 use std::alloc::Global;
@@ -57,7 +57,7 @@ fn live_brick_turn(
             key,
             name,
             stamp,
-        } => get(alloc, state, from, *txn, *key, *name, *stamp),
+        } => get_row(alloc, state, from, *txn, *key, *name, *stamp),
         Letter::Prepare {
             txn,
             caller,
@@ -75,10 +75,10 @@ fn live_brick_turn(
                 op: op.copy()?,
                 list: *list,
             };
-            prepare(alloc, state, from, pending, *below, *name, *stamp)
+            prepare_row(alloc, state, from, pending, *below, *name, *stamp)
         }
-        Letter::Commit { txn } => commit(alloc, state, from, *txn),
-        Letter::Abort { txn } => abort(alloc, state, from, *txn),
+        Letter::Commit { txn } => commit_row(alloc, state, from, *txn),
+        Letter::Abort { txn } => abort_row(alloc, state, from, *txn),
         Letter::Push { leaf } => {
             take(state, leaf)?;
             Ok(CoreTurn::new(alloc))
@@ -88,29 +88,29 @@ fn live_brick_turn(
             caller: _,
             call: _,
             key,
-        } => map_ask(alloc, state, from, *txn, *key),
-        Letter::Help { txn, list } => help(alloc, state, from, *txn, list),
-        Letter::Query { txn, list } => query(alloc, state, from, *txn, list),
-        Letter::Status { txn, status: told } => status(alloc, state, from, *txn, *told),
-        Letter::Outcome { txn, commit } => outcome(alloc, state, *txn, *commit),
-        Letter::Lease { order, what } => lease(alloc, state, from, *order, what),
-        Letter::Granted { order, leaf } => granted(alloc, state, from, *order, leaf),
+        } => map_ask_row(alloc, state, from, *txn, *key),
+        Letter::Help { txn, list } => help_row(alloc, state, from, *txn, list),
+        Letter::Query { txn, list } => query_row(alloc, state, from, *txn, list),
+        Letter::Status { txn, status: told } => status_row(alloc, state, from, *txn, *told),
+        Letter::Outcome { txn, commit } => outcome_row(alloc, state, *txn, *commit),
+        Letter::Lease { order, what } => lease_row(alloc, state, from, *order, what),
+        Letter::Granted { order, leaf } => granted_row(alloc, state, from, *order, leaf),
         Letter::LeaseRefused { order, refusal } => {
-            lease_refused(alloc, state, from, *order, refusal)
+            lease_refused_row(alloc, state, from, *order, refusal)
         }
         Letter::Release { order: _, name } => {
-            release(state, from, *name);
+            release_row(state, from, *name);
             Ok(CoreTurn::new(alloc))
         }
         Letter::CopyAsk { order, name, after } => {
-            copy_ask(alloc, state, from, *order, *name, *after)
+            copy_ask_row(alloc, state, from, *order, *name, *after)
         }
         Letter::CopyPart { order, last, pairs } => {
-            copy_part(alloc, state, from, *order, *last, pairs.as_slice())
+            copy_part_row(alloc, state, from, *order, *last, pairs.as_slice())
         }
-        Letter::Install { order, leaf } => install(alloc, state, from, *order, leaf),
-        Letter::Installed { order, name: _ } => installed(alloc, state, from, *order),
-        Letter::Notice => notice(alloc, state, from),
+        Letter::Install { order, leaf } => install_row(alloc, state, from, *order, leaf),
+        Letter::Installed { order, name: _ } => installed_row(alloc, state, from, *order),
+        Letter::Notice => notice_row(alloc, state, from),
         Letter::Got { .. }
         | Letter::Vote { .. }
         | Letter::Applied { .. }
@@ -129,7 +129,7 @@ pub fn brick_input(alloc: Global, state: &mut BrickState, order: &Order) -> Resu
             brick: _,
             name,
             via,
-        } => join(alloc, state, *name, *via),
-        Order::Split { brick: _, name } => split(alloc, state, *name),
+        } => join_order(alloc, state, *name, *via),
+        Order::Split { brick: _, name } => split_order(alloc, state, *name),
     }
 }

@@ -11,9 +11,9 @@ use dds_base::items::Items;
 use dds_base::memory::Memory;
 use dds_base::number::{CallNo, CallerNo, NodeNo, TxnNo};
 use dds_base::op::{Op, Reply};
-use dds_call_rows::attempt::{begin, stay};
-use dds_call_rows::call::{aborted, applied, got, told, unchanged, vote};
-use dds_call_rows::call_notice::notice;
+use dds_call_rows::attempt::{begin, stays};
+use dds_call_rows::call::{aborted_in, applied_in, got_in, told_in, unchanged, vote_in};
+use dds_call_rows::call_notice::notice_in;
 use dds_letters::letter::Letter;
 use dds_letters::outbox::Outbox;
 use dds_maps::maps::Maps;
@@ -33,7 +33,7 @@ fn least_attempt(calls: &[OpenCall]) -> u64
 }
 
 /// What a letter does to one open call.
-fn run(
+fn call_row(
     alloc: Global,
     desk: &mut Desk,
     call: OpenCall,
@@ -44,13 +44,30 @@ fn run(
     ensures went { IfOk result (λ went. went ≡ (call_row desk.old call from letter.now).went) }
 {
     match letter {
-        Letter::Got { txn: _, answer } => got(alloc, desk, call, from, answer),
-        Letter::Vote { txn: _, vote: told } => vote(alloc, desk, call, from, told),
-        Letter::Applied { txn: _, was } => applied(alloc, desk, call, from, *was),
-        Letter::Aborted { txn: _ } => aborted(alloc, desk, call, from),
-        Letter::MapTell { txn: _, leaf } => told(alloc, desk, call, from, leaf),
-        Letter::Notice => notice(alloc, desk, call, from),
-        Letter::Get { .. } | Letter::Prepare { .. } | Letter::Commit { .. } | Letter::Abort { .. } | Letter::Push { .. } | Letter::MapAsk { .. } | Letter::Help { .. } | Letter::Query { .. } | Letter::Status { .. } | Letter::Outcome { .. } | Letter::Lease { .. } | Letter::Granted { .. } | Letter::LeaseRefused { .. } | Letter::Release { .. } | Letter::CopyAsk { .. } | Letter::CopyPart { .. } | Letter::Install { .. } | Letter::Installed { .. } => Ok(unchanged(alloc, desk, call)),
+        Letter::Got { txn: _, answer } => got_in(alloc, desk, call, from, answer),
+        Letter::Vote { txn: _, vote: told } => vote_in(alloc, desk, call, from, told),
+        Letter::Applied { txn: _, was } => applied_in(alloc, desk, call, from, *was),
+        Letter::Aborted { txn: _ } => aborted_in(alloc, desk, call, from),
+        Letter::MapTell { txn: _, leaf } => told_in(alloc, desk, call, from, leaf),
+        Letter::Notice => notice_in(alloc, desk, call, from),
+        Letter::Get { .. }
+        | Letter::Prepare { .. }
+        | Letter::Commit { .. }
+        | Letter::Abort { .. }
+        | Letter::Push { .. }
+        | Letter::MapAsk { .. }
+        | Letter::Help { .. }
+        | Letter::Query { .. }
+        | Letter::Status { .. }
+        | Letter::Outcome { .. }
+        | Letter::Lease { .. }
+        | Letter::Granted { .. }
+        | Letter::LeaseRefused { .. }
+        | Letter::Release { .. }
+        | Letter::CopyAsk { .. }
+        | Letter::CopyPart { .. }
+        | Letter::Install { .. }
+        | Letter::Installed { .. } => Ok(unchanged(alloc, desk, call)),
     }
 }
 
@@ -156,7 +173,7 @@ fn turn_of(
 {
     let (caller, number, txn) = names(&call);
     let mut desk = open_desk(alloc, state)?;
-    let went = run(alloc, &mut desk, call, from, letter)?;
+    let went = call_row(alloc, &mut desk, call, from, letter)?;
     close_desk(state, desk);
     put_back(&mut state.calls, place, went.call)?;
     give(alloc, went.letters, went.reply, caller, number, txn)
@@ -208,7 +225,25 @@ fn attempt_of(letter: &Letter) -> Option<TxnNo>
         Letter::Applied { txn, was: _ } => Some(*txn),
         Letter::Aborted { txn } => Some(*txn),
         Letter::MapTell { txn, leaf: _ } => Some(*txn),
-        Letter::Get { .. } | Letter::Prepare { .. } | Letter::Commit { .. } | Letter::Abort { .. } | Letter::Push { .. } | Letter::MapAsk { .. } | Letter::Help { .. } | Letter::Query { .. } | Letter::Status { .. } | Letter::Outcome { .. } | Letter::Lease { .. } | Letter::Granted { .. } | Letter::LeaseRefused { .. } | Letter::Release { .. } | Letter::CopyAsk { .. } | Letter::CopyPart { .. } | Letter::Install { .. } | Letter::Installed { .. } | Letter::Notice => None,
+        Letter::Get { .. }
+        | Letter::Prepare { .. }
+        | Letter::Commit { .. }
+        | Letter::Abort { .. }
+        | Letter::Push { .. }
+        | Letter::MapAsk { .. }
+        | Letter::Help { .. }
+        | Letter::Query { .. }
+        | Letter::Status { .. }
+        | Letter::Outcome { .. }
+        | Letter::Lease { .. }
+        | Letter::Granted { .. }
+        | Letter::LeaseRefused { .. }
+        | Letter::Release { .. }
+        | Letter::CopyAsk { .. }
+        | Letter::CopyPart { .. }
+        | Letter::Install { .. }
+        | Letter::Installed { .. }
+        | Letter::Notice => None,
     }
 }
 
@@ -326,10 +361,10 @@ pub fn library_input(
         retries: 0,
         pushed: false,
     };
-    open(alloc, state, request)
+    input_turn(alloc, state, request)
 }
 
-fn open(alloc: Global, state: &mut LibraryState, request: Request) -> Result<CoreTurn, Memory>
+fn input_turn(alloc: Global, state: &mut LibraryState, request: Request) -> Result<CoreTurn, Memory>
     ensures state { OnOk result (state.new ≡ (input_turn state.old request (begin (desk_of state.old state.old.calls) request)).state) }
     ensures out { IfOk result (λ turn. turn ≡ (input_turn state.old request (begin (desk_of state.old state.old.calls) request)).out) }
 {

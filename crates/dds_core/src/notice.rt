@@ -14,19 +14,17 @@ use dds_base::memory::Memory;
 use dds_base::number::{NodeNo, TxnNo};
 use dds_base::op::OrderReply;
 use dds_base::pending::Pending;
-use dds_brick_rows::resolution::{hear_all, help, is_resolved, query, resolve, News};
+use dds_brick_rows::resolution::{News, all_hear, help_row, is_resolved, query_row, resolve};
 use dds_letters::letter::Letter;
-use dds_order_rows::finishing::end;
-use dds_order_rows::going_on::{copy, install_on, lease_on};
-use dds_states::brick_state::{
-    BrickState, Deferred, OpenOrder, OrderPhase, Question, Task,
-};
+use dds_order_rows::finishing::ends;
+use dds_order_rows::going_on::{copies, installs_on, leases_on};
+use dds_states::brick_state::{BrickState, Deferred, OpenOrder, OrderPhase, Question, Task};
 use dds_states::nodes::{has, members, unknown_members, without};
 use dds_states::turn::CoreTurn;
 use std::alloc::Global;
 
 /// Knows the node, and drops its leases.
-fn learn(state: &mut BrickState, node: NodeNo)
+fn learns(state: &mut BrickState, node: NodeNo)
     ensures { state.new ≡ learns state.old node }
 {
     state.known.add(node);
@@ -63,13 +61,13 @@ fn concerns_some(order: &Option<OpenOrder>, node: NodeNo) -> bool
     }
 }
 
-fn copy_again(alloc: Global, state: &mut BrickState, order: OpenOrder) -> Result<CoreTurn, Memory>
+fn copies_again(alloc: Global, state: &mut BrickState, order: OpenOrder) -> Result<CoreTurn, Memory>
     ensures state { OnOk result (state.new ≡ (copies_again state.old order order.leaf).state) }
     ensures out { IfOk result (λ turn. turn ≡ (copies_again state.old order order.leaf).out) }
 {
     let leaf = order.leaf;
     match leaf {
-        Some(leaf) => copy(alloc, state, order, &leaf),
+        Some(leaf) => copies(alloc, state, order, &leaf),
         None => {
             state.order = Some(order);
             Ok(CoreTurn::new(alloc))
@@ -87,10 +85,10 @@ fn lease_without(
     ensures out { IfOk result (λ turn. turn ≡ (order_goes state.old order node Leasing).out) }
 {
     if is_lost(&order, node) {
-        return end(alloc, state, order, OrderReply::NoSource);
+        return ends(alloc, state, order, OrderReply::NoSource);
     }
     order.waiting = without(alloc, order.waiting.as_slice(), node)?;
-    lease_on(alloc, state, order)
+    leases_on(alloc, state, order)
 }
 
 fn install_without(
@@ -104,11 +102,11 @@ fn install_without(
     ensures out { IfOk result (λ turn. turn ≡ (order_goes state.old order node (Installing made)).out) }
 {
     order.waiting = without(alloc, order.waiting.as_slice(), node)?;
-    install_on(alloc, state, order, &made)
+    installs_on(alloc, state, order, &made)
 }
 
 /// The order goes on without the node.
-fn order_on(
+fn order_goes(
     alloc: Global,
     state: &mut BrickState,
     order: OpenOrder,
@@ -120,7 +118,7 @@ fn order_on(
     let phase = order.phase;
     match phase {
         OrderPhase::Leasing => lease_without(alloc, state, order, node),
-        OrderPhase::Copying { source: _ } => copy_again(alloc, state, order),
+        OrderPhase::Copying { source: _ } => copies_again(alloc, state, order),
         OrderPhase::Installing { made } => install_without(alloc, state, order, node, made),
     }
 }
@@ -136,7 +134,7 @@ fn order_part(alloc: Global, state: &mut BrickState, node: NodeNo) -> Result<Cor
     let Some(order) = state.order.take() else {
         return Ok(CoreTurn::new(alloc));
     };
-    order_on(alloc, state, order, node)
+    order_goes(alloc, state, order, node)
 }
 
 /// Each resolving goes on without the node.
@@ -144,11 +142,15 @@ fn resolving_part(alloc: Global, state: &mut BrickState, node: NodeNo) -> Result
     ensures state { OnOk result (state.new ≡ (resolving_part state.old node).state) }
     ensures out { IfOk result (λ turn. turn ≡ (resolving_part state.old node).out) }
 {
-    hear_all(alloc, state, node, &News::Stopped)
+    all_hear(alloc, state, node, &News::Stopped)
 }
 
 /// A deferred letter is handled, and deferred again where it isn't ready.
-fn ask_again(alloc: Global, state: &mut BrickState, deferred: &Deferred) -> Result<CoreTurn, Memory>
+fn asked_again(
+    alloc: Global,
+    state: &mut BrickState,
+    deferred: &Deferred,
+) -> Result<CoreTurn, Memory>
     ensures state { OnOk result (state.new ≡ (asked_again state.old deferred.now deferred.now.question).state) }
     ensures out { IfOk result (λ turn. turn ≡ (asked_again state.old deferred.now deferred.now.question).out) }
 {
@@ -159,12 +161,12 @@ fn ask_again(alloc: Global, state: &mut BrickState, deferred: &Deferred) -> Resu
         list,
     } = deferred;
     match question {
-        Question::Help => help(alloc, state, *from, *txn, list),
-        Question::Query => query(alloc, state, *from, *txn, list),
+        Question::Help => help_row(alloc, state, *from, *txn, list),
+        Question::Query => query_row(alloc, state, *from, *txn, list),
     }
 }
 
-fn ask_all_again(
+fn asked_all_again(
     alloc: Global,
     state: &mut BrickState,
     deferred: Items<Deferred>,
@@ -174,7 +176,7 @@ fn ask_all_again(
 {
     let mut turn = CoreTurn::new(alloc);
     for letter in deferred.into_vec() {
-        let next = ask_again(alloc, state, &letter)?;
+        let next = asked_again(alloc, state, &letter)?;
         turn = turn.with(next)?;
     }
     Ok(turn)
@@ -186,7 +188,7 @@ fn deferred_part(alloc: Global, state: &mut BrickState) -> Result<CoreTurn, Memo
     ensures out { IfOk result (λ turn. turn ≡ (deferred_part state.old).out) }
 {
     let deferred = std::mem::replace(&mut state.deferred, Items::new(alloc));
-    ask_all_again(alloc, state, deferred)
+    asked_all_again(alloc, state, deferred)
 }
 
 /// Whether the node is a member before another one.
@@ -205,7 +207,7 @@ fn is_before(list: &[NodeNo], other: NodeNo, node: NodeNo) -> bool
 }
 
 /// A transaction is resolved here where the first of these members is this brick, or that one is told to resolve it.
-fn help_by(
+fn helped_by(
     alloc: Global,
     state: &mut BrickState,
     node: NodeNo,
@@ -243,7 +245,7 @@ fn has_become_first(
 }
 
 /// One pending transaction goes on.
-fn pending_on(
+fn pending_goes(
     alloc: Global,
     state: &mut BrickState,
     node: NodeNo,
@@ -257,7 +259,7 @@ fn pending_on(
         return Ok(CoreTurn::new(alloc));
     }
     let live = unknown_members(alloc, list, &state.known)?;
-    help_by(alloc, state, node, txn, list, live.as_slice())
+    helped_by(alloc, state, node, txn, list, live.as_slice())
 }
 
 /// Whether a transaction's library is known to have stopped, and it isn't being resolved here.
@@ -268,7 +270,7 @@ fn is_stuck(state: &BrickState, txn: TxnNo) -> bool
 }
 
 /// The pending transactions with their members.
-fn numbers(alloc: Global, pending: &[Pending]) -> Result<Vec<(TxnNo, BrickList)>, Memory>
+fn numbered(alloc: Global, pending: &[Pending]) -> Result<Vec<(TxnNo, BrickList)>, Memory>
     ensures { IfOk result (λ list. list.items ≡ numbered pending.now) }
 {
     let mut list = Vec::new(alloc);
@@ -278,7 +280,7 @@ fn numbers(alloc: Global, pending: &[Pending]) -> Result<Vec<(TxnNo, BrickList)>
     Ok(list)
 }
 
-fn pendings_on(
+fn pendings_go(
     alloc: Global,
     state: &mut BrickState,
     node: NodeNo,
@@ -289,7 +291,7 @@ fn pendings_on(
 {
     let mut turn = CoreTurn::new(alloc);
     for (txn, list) in pending {
-        let next = pending_on(alloc, state, node, txn, &list)?;
+        let next = pending_goes(alloc, state, node, txn, &list)?;
         turn = turn.with(next)?;
     }
     Ok(turn)
@@ -300,17 +302,17 @@ fn pending_part(alloc: Global, state: &mut BrickState, node: NodeNo) -> Result<C
     ensures state { OnOk result (state.new ≡ (pending_part state.old node).state) }
     ensures out { IfOk result (λ turn. turn ≡ (pending_part state.old node).out) }
 {
-    let pending = numbers(alloc, state.locks.pending())?;
-    pendings_on(alloc, state, node, pending)
+    let pending = numbered(alloc, state.locks.pending())?;
+    pendings_go(alloc, state, node, pending)
 }
 
 /// A node has stopped: it is known, and the order, the resolvings, the deferred letters and the pending transactions
 /// go on without it.
-pub fn notice(alloc: Global, state: &mut BrickState, node: NodeNo) -> Result<CoreTurn, Memory>
+pub fn notice_row(alloc: Global, state: &mut BrickState, node: NodeNo) -> Result<CoreTurn, Memory>
     ensures state { OnOk result (state.new ≡ (notice_row state.old node).state) }
     ensures out { IfOk result (λ turn. turn ≡ (notice_row state.old node).out) }
 {
-    learn(state, node);
+    learns(state, node);
     let turn = order_part(alloc, state, node)?;
     let next = resolving_part(alloc, state, node)?;
     let turn = turn.with(next)?;

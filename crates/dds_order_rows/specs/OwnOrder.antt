@@ -1,5 +1,6 @@
 -- What a brick does for an order of its own.
-use Rattle.std.specs.Prelude.{ℕ, Bool, true, false, not, ◌==◌, ◌+◌, ◌-◌, ◌^◌, ◌&&◌, ◌||◌, List, [], ◌∷◌, ◌++◌, Option, Some, None, is_some, length, filter, nat_le, if◌then◌else◌}
+use Rattle.std.specs.Prelude.{ℕ, Bool, true, false, not, ◌==◌, ◌+◌, ◌-◌, ◌^◌, ◌&&◌, ◌||◌, List, [], ◌∷◌, ◌++◌, Option, Some, None, is_some, length, filter}
+use Rattle.std.specs.Prelude.{nat_le, if◌then◌else◌}
 use Rattle.std.specs.List.{list_any, list_all}
 use Rattle.std.specs.FinMap.{get, insert, remove, keys}
 use Rattle.dds_base.specs.Name.{Name, covers, overlaps, same_name}
@@ -69,7 +70,7 @@ serving s o made task.Split =
 abbrev pub finishes : BrickState → OpenOrder → Leaf → BrickTurn
 finishes s o made =
     and_then (sends (closed (serving s o made o.task) o) (to_each (unknown o.granted s.known) (letter.Release o.number o.name)))
-        (λ t. answers t answered.Done)
+    (λ t. answers t answered.Done)
 
 -- the members that granted the order its lease, and for a split the brick itself, that aren't known to have stopped
 abbrev pub takes_part : BrickState → OpenOrder → ℕ → Bool
@@ -122,15 +123,15 @@ leases_on s o = if is_none_left o.waiting then leased_all_at s o o.leaf else sti
 abbrev pub opens : BrickState → Task → Name → Option Leaf → List NodeNo → OpenOrder
 opens s t name leaf asked =
     record {
-        number = s.orders;
-        task = t;
-        name = name;
-        leaf = leaf;
-        asked = asked;
-        granted = [];
-        waiting = asked;
-        copied = [];
-        phase = Leasing
+      number = s.orders;
+      task = t;
+      name = name;
+      leaf = leaf;
+      asked = asked;
+      granted = [];
+      waiting = asked;
+      copied = [];
+      phase = Leasing;
     }
 
 -- the last epoch but two: beyond it a leaf has no successor
@@ -141,7 +142,7 @@ is_worn leaf = nat_le (2 ^ 64 - 2) leaf.epoch
 abbrev pub join_opens : BrickState → Name → NodeNo → BrickTurn
 join_opens s name via =
     sends (record s { orders = s.orders + 1; order = Some (opens s (task.Join via) name None (via ∷ [])) })
-        ((via, letter.Lease s.orders (wanted.Name name)) ∷ [])
+    ((via, letter.Lease s.orders (wanted.Name name)) ∷ [])
 
 -- the order Join: refused by the first reason that holds, or asks `via` for a lease of the name
 abbrev pub join_order : BrickState → Name → NodeNo → BrickTurn
@@ -160,9 +161,9 @@ new_split s leaf = opens s task.Split leaf.name (Some leaf) (unknown_others leaf
 abbrev pub split_opens : BrickState → Leaf → BrickTurn
 split_opens s leaf =
     and_then
-        (sends (record (leasing s leaf.name s.number) { orders = s.orders + 1 })
-            (to_each (unknown_others leaf.list s.number s.known) (letter.Lease s.orders (wanted.Leaf leaf))))
-        (λ t. leases_on t (new_split s leaf))
+    (sends (record (leasing s leaf.name s.number) { orders = s.orders + 1 })
+    (to_each (unknown_others leaf.list s.number s.known) (letter.Lease s.orders (wanted.Leaf leaf))))
+    (λ t. leases_on t (new_split s leaf))
 
 abbrev pub split_leaf : BrickState → Leaf → BrickTurn
 split_leaf s leaf =
@@ -186,15 +187,15 @@ split_order s name =
 abbrev pub widened : BrickState → OpenOrder → NodeNo → Leaf → OpenOrder
 widened s o from leaf =
     record o {
-        leaf = Some leaf;
-        asked = o.asked ++ unknown_others leaf.list from s.known;
-        waiting = o.waiting ++ unknown_others leaf.list from s.known
+      leaf = Some leaf;
+      asked = o.asked ++ unknown_others leaf.list from s.known;
+      waiting = o.waiting ++ unknown_others leaf.list from s.known;
     }
 
 abbrev pub fixed : BrickState → OpenOrder → NodeNo → Leaf → BrickTurn
 fixed s o from leaf =
     and_then (sends s (to_each (unknown_others leaf.list from s.known) (letter.Lease o.number (wanted.Leaf leaf))))
-        (λ t. leases_on t (widened s o from leaf))
+    (λ t. leases_on t (widened s o from leaf))
 
 -- a join's first lease fixes its leaf, unless that is worn or its group is full, and it asks every other member
 abbrev pub fixes : BrickState → OpenOrder → NodeNo → Leaf → BrickTurn
@@ -281,7 +282,7 @@ is_source from (Installing made) = false
 abbrev pub copy_part_row : BrickState → NodeNo → ℕ → Bool → List Pair → BrickTurn
 copy_part_row s from number last pairs =
     at_order s number (λ o. is_source from o.phase && fits o pairs)
-        (λ t o. copied_on t (record o { copied = o.copied ++ pairs }) from last)
+    (λ t o. copied_on t (record o { copied = o.copied ++ pairs }) from last)
 
 -- goes on where no member is waited for any more
 abbrev pub installs_on : BrickState → OpenOrder → Leaf → BrickTurn

@@ -36,7 +36,7 @@ pub fn is_join(task: &Task) -> bool
 }
 
 /// The open order is over. A split gives its own lease back.
-fn close(state: &mut BrickState, order: &OpenOrder)
+fn closed(state: &mut BrickState, order: &OpenOrder)
     ensures { state.new ≡ closed state.old order.now }
 {
     state.order = None;
@@ -65,7 +65,7 @@ fn give_back(
 }
 
 /// Ends the order with a reply that isn't `Done`.
-pub fn end(
+pub fn ends(
     alloc: Global,
     state: &mut BrickState,
     order: OpenOrder,
@@ -74,12 +74,12 @@ pub fn end(
     ensures state { OnOk result (state.new ≡ (ends state.old order reply).state) }
     ensures out { IfOk result (λ turn. turn ≡ (ends state.old order reply).out) }
 {
-    close(state, &order);
+    closed(state, &order);
     give_back(alloc, state, &order, order.asked.as_slice(), reply)
 }
 
 /// Binds pairs to a table.
-fn bind_all(table: &mut Table, pairs: &[Pair]) -> Result<(), Memory>
+fn bound(table: &mut Table, pairs: &[Pair]) -> Result<(), Memory>
     ensures { OnOk result (table.new ≡ bound table.old pairs.now) }
 {
     for pair in pairs {
@@ -89,13 +89,13 @@ fn bind_all(table: &mut Table, pairs: &[Pair]) -> Result<(), Memory>
 }
 
 /// Serves the leaf that was made: a join's with the pairs that it copied, a split's with the other half's.
-fn serve(state: &mut BrickState, order: &OpenOrder, made: &Leaf) -> Result<(), Memory>
+fn serving(state: &mut BrickState, order: &OpenOrder, made: &Leaf) -> Result<(), Memory>
     ensures { OnOk result (state.new ≡ serving state.old order.now made.now order.now.task) }
 {
     match order.task {
         Task::Join { via: _ } => {
             state.leaves.adopt(*made)?;
-            bind_all(&mut state.pairs, order.copied.as_slice())
+            bound(&mut state.pairs, order.copied.as_slice())
         }
         Task::Split => {
             if made.name.depth() == 0 {
@@ -107,7 +107,7 @@ fn serve(state: &mut BrickState, order: &OpenOrder, made: &Leaf) -> Result<(), M
 }
 
 /// The order is done.
-pub fn finish(
+pub fn finishes(
     alloc: Global,
     state: &mut BrickState,
     order: OpenOrder,
@@ -116,8 +116,8 @@ pub fn finish(
     ensures state { OnOk result (state.new ≡ (finishes state.old order made.now).state) }
     ensures out { IfOk result (λ turn. turn ≡ (finishes state.old order made.now).out) }
 {
-    serve(state, &order, made)?;
-    close(state, &order);
+    serving(state, &order, made)?;
+    closed(state, &order);
     give_back(
         alloc,
         state,

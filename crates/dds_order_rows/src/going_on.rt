@@ -3,7 +3,7 @@
 ghost use Rattle.std.specs.Prelude.{◌≡◌, [], ◌∷◌, ◌++◌, IfOk, OnOk, Some, None, filter};
 ghost use Rattle.dds_order_rows.specs.OwnOrder.{parting, takes_part, made_leaf, installs_from, installs, sources, copies_from, copies, going_on, leases_on, leased_all, leased_all_at, installs_on};
 
-use crate::finishing::{end, finish, is_join};
+use crate::finishing::{ends, finishes, is_join};
 use dds_base::leaf::Leaf;
 use dds_base::memory::Memory;
 use dds_base::number::{NodeNo, Stamp};
@@ -43,7 +43,7 @@ fn parting(
 }
 
 /// The leaf that the order makes. It answers `Memory` too where the leaf has no successor.
-fn make_leaf(
+fn made_leaf(
     alloc: Global,
     state: &BrickState,
     order: &OpenOrder,
@@ -81,7 +81,7 @@ fn make_leaf(
 }
 
 /// Has the members install the leaf that was made, or finishes where there are none.
-fn install_from(
+fn installs_from(
     alloc: Global,
     state: &mut BrickState,
     mut order: OpenOrder,
@@ -92,7 +92,7 @@ fn install_from(
     ensures out { IfOk result (λ turn. turn ≡ (installs_from state.old order made members).out) }
 {
     if members.is_empty() {
-        return finish(alloc, state, order, &made);
+        return finishes(alloc, state, order, &made);
     }
     let install = Letter::Install {
         order: order.number,
@@ -106,7 +106,7 @@ fn install_from(
 }
 
 /// Begins installing: makes the next leaf, and has the members that take part install it.
-pub fn install(
+pub fn installs(
     alloc: Global,
     state: &mut BrickState,
     order: OpenOrder,
@@ -115,11 +115,11 @@ pub fn install(
     ensures state { OnOk result (state.new ≡ (installs state.old order leaf.now).state) }
     ensures out { IfOk result (λ turn. turn ≡ (installs state.old order leaf.now).out) }
 {
-    let made = make_leaf(alloc, state, &order, leaf)?;
+    let made = made_leaf(alloc, state, &order, leaf)?;
     let members = parting(alloc, state, &order, leaf)?;
     let members = without(alloc, members.as_slice(), state.number)?;
     state.made = state.made.checked_add(1).ok_or(Memory)?;
-    install_from(alloc, state, order, made, members)
+    installs_from(alloc, state, order, made, members)
 }
 
 /// The members of the leaf that granted their leases and aren't known to have stopped.
@@ -142,7 +142,7 @@ fn sources(
 }
 
 /// Copies from the first of these members, or ends where there are none.
-fn copy_from(
+fn copies_from(
     alloc: Global,
     state: &mut BrickState,
     mut order: OpenOrder,
@@ -152,7 +152,7 @@ fn copy_from(
     ensures out { IfOk result (λ turn. turn ≡ (copies_from state.old order sources.now).out) }
 {
     let Some(source) = sources.first().copied() else {
-        return end(alloc, state, order, OrderReply::NoSource);
+        return ends(alloc, state, order, OrderReply::NoSource);
     };
     let ask = Letter::CopyAsk {
         order: order.number,
@@ -166,7 +166,7 @@ fn copy_from(
 }
 
 /// Begins copying, from the first member that it can.
-pub fn copy(
+pub fn copies(
     alloc: Global,
     state: &mut BrickState,
     order: OpenOrder,
@@ -176,11 +176,15 @@ pub fn copy(
     ensures out { IfOk result (λ turn. turn ≡ (copies state.old order leaf.now).out) }
 {
     let sources = sources(alloc, state, &order, leaf)?;
-    copy_from(alloc, state, order, sources.as_slice())
+    copies_from(alloc, state, order, sources.as_slice())
 }
 
 /// All leases are there: a join copies, a split installs.
-fn leased_all(alloc: Global, state: &mut BrickState, order: OpenOrder) -> Result<CoreTurn, Memory>
+fn leased_all_at(
+    alloc: Global,
+    state: &mut BrickState,
+    order: OpenOrder,
+) -> Result<CoreTurn, Memory>
     ensures state { OnOk result (state.new ≡ (leased_all_at state.old order order.leaf).state) }
     ensures out { IfOk result (λ turn. turn ≡ (leased_all_at state.old order order.leaf).out) }
 {
@@ -190,25 +194,29 @@ fn leased_all(alloc: Global, state: &mut BrickState, order: OpenOrder) -> Result
         return Ok(CoreTurn::new(alloc));
     };
     match task {
-        Task::Join { via: _ } => copy(alloc, state, order, &leaf),
-        Task::Split => install(alloc, state, order, &leaf),
+        Task::Join { via: _ } => copies(alloc, state, order, &leaf),
+        Task::Split => installs(alloc, state, order, &leaf),
     }
 }
 
 /// Goes on where no lease is waited for any more.
-pub fn lease_on(alloc: Global, state: &mut BrickState, order: OpenOrder) -> Result<CoreTurn, Memory>
+pub fn leases_on(
+    alloc: Global,
+    state: &mut BrickState,
+    order: OpenOrder,
+) -> Result<CoreTurn, Memory>
     ensures state { OnOk result (state.new ≡ (leases_on state.old order).state) }
     ensures out { IfOk result (λ turn. turn ≡ (leases_on state.old order).out) }
 {
     if order.waiting.is_empty() {
-        return leased_all(alloc, state, order);
+        return leased_all_at(alloc, state, order);
     }
     state.order = Some(order);
     Ok(CoreTurn::new(alloc))
 }
 
 /// Goes on where no member is waited for any more that is to install the leaf.
-pub fn install_on(
+pub fn installs_on(
     alloc: Global,
     state: &mut BrickState,
     order: OpenOrder,
@@ -218,7 +226,7 @@ pub fn install_on(
     ensures out { IfOk result (λ turn. turn ≡ (installs_on state.old order made.now).out) }
 {
     if order.waiting.is_empty() {
-        return finish(alloc, state, order, made);
+        return finishes(alloc, state, order, made);
     }
     state.order = Some(order);
     Ok(CoreTurn::new(alloc))

@@ -13,7 +13,7 @@ use dds_base::number::{NodeNo, Stamp};
 use dds_base::pair::{Pair, PairList};
 use dds_base::place::{is_after, is_before};
 use dds_brick_rows::refusal::lease_refusal;
-use dds_brick_rows::take::{replace, take};
+use dds_brick_rows::take::{replaced, take};
 use dds_groups::successor::{has, successor};
 use dds_history::table::Table;
 use dds_letters::copied_pairs::{COPIED, CopiedPairs};
@@ -24,7 +24,7 @@ use dds_states::turn::CoreTurn;
 use std::alloc::Global;
 
 /// Takes the leaf, where one is told and it may; then refuses, or gives the lease and tells the own leaf.
-pub fn lease(
+pub fn lease_row(
     alloc: Global,
     state: &mut BrickState,
     from: NodeNo,
@@ -35,15 +35,15 @@ pub fn lease(
     ensures out { IfOk result (λ turn. turn ≡ (lease_row state.old from order what.now).out) }
 {
     match what {
-        Wanted::Name(name) => answer_lease(alloc, state, from, order, *name, None),
+        Wanted::Name(name) => lease_answered(alloc, state, from, order, *name, None),
         Wanted::Leaf(leaf) => {
             take(state, leaf)?;
-            answer_lease(alloc, state, from, order, leaf.name, Some(leaf.stamp))
+            lease_answered(alloc, state, from, order, leaf.name, Some(leaf.stamp))
         }
     }
 }
 
-fn answer_lease(
+fn lease_answered(
     alloc: Global,
     state: &mut BrickState,
     from: NodeNo,
@@ -65,7 +65,7 @@ fn answer_lease(
 }
 
 /// Drops the sender's lease of the name.
-pub fn release(state: &mut BrickState, from: NodeNo, name: LeafName)
+pub fn release_row(state: &mut BrickState, from: NodeNo, name: LeafName)
     ensures { state.new ≡ (release_row state.old from name).state }
 {
     state.locks.release(name, from);
@@ -123,7 +123,7 @@ fn first_pairs(alloc: Global, pairs: &[Pair]) -> Result<CopiedPairs, Memory>
 
 /// Where the sender has the lease and the name is an own leaf's, sends the next pairs, as many as a part takes, and
 /// whether none follow.
-pub fn copy_ask(
+pub fn copy_ask_row(
     alloc: Global,
     state: &BrickState,
     from: NodeNo,
@@ -144,7 +144,7 @@ pub fn copy_ask(
 
 /// Where a lease of the sender overlaps the leaf's name, the leaf lists this brick, and it comes in one step from an
 /// own leaf, replaces that one and says which it was.
-pub fn install(
+pub fn install_row(
     alloc: Global,
     state: &mut BrickState,
     from: NodeNo,
@@ -163,7 +163,7 @@ pub fn install(
     if successor(&own, leaf).is_none() {
         return Ok(CoreTurn::new(alloc));
     }
-    replace(&mut state.leaves, &own, leaf)?;
+    replaced(&mut state.leaves, &own, leaf)?;
     let name = own.name;
     CoreTurn::letter(alloc, from, Letter::Installed { order, name })
 }

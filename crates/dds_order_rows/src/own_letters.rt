@@ -6,8 +6,8 @@ ghost use Rattle.dds_base.specs.Name.{covers};
 ghost use Rattle.dds_base.specs.Place.{last_key};
 ghost use Rattle.dds_order_rows.specs.OwnOrder.{fixes, fixed, widened, granted_join, is_leasing, takes_grant, grants, is_at, with_order, at_order, with_grant, granted_row, met_of, lease_refused_row, starts_after, fits, copied_all, copied_on, is_source, copy_part_row, installed_in, is_installing, installed_row};
 
-use crate::finishing::{end, is_join};
-use crate::going_on::{install, install_on, lease_on};
+use crate::finishing::{ends, is_join};
+use crate::going_on::{installs, installs_on, leases_on};
 use crate::own_order::{ask_others, is_worn};
 use dds_base::brick_list::MEMBERS;
 use dds_base::leaf::Leaf;
@@ -54,7 +54,7 @@ fn grant_is_taken(order: &Option<OpenOrder>, number: u64, me: NodeNo, leaf: &Lea
 }
 
 /// The order with its leaf, which asks every other member.
-fn widen(
+fn widened(
     alloc: Global,
     state: &BrickState,
     mut order: OpenOrder,
@@ -71,7 +71,7 @@ fn widen(
 }
 
 /// A join's first lease fixes its leaf, unless that is worn or its group is full, and it asks every other member.
-fn fix(
+fn fixes(
     alloc: Global,
     state: &mut BrickState,
     order: OpenOrder,
@@ -82,15 +82,15 @@ fn fix(
     ensures out { IfOk result (λ turn. turn ≡ (fixes state.old order from leaf.now).out) }
 {
     if is_worn(leaf) {
-        return end(alloc, state, order, OrderReply::Worn);
+        return ends(alloc, state, order, OrderReply::Worn);
     }
     if live(&leaf.list, &state.known).len() >= MEMBERS {
-        return end(alloc, state, order, OrderReply::GroupFull);
+        return ends(alloc, state, order, OrderReply::GroupFull);
     }
-    ask_the_others(alloc, state, order, from, leaf)
+    fixed(alloc, state, order, from, leaf)
 }
 
-fn ask_the_others(
+fn fixed(
     alloc: Global,
     state: &mut BrickState,
     order: OpenOrder,
@@ -101,13 +101,13 @@ fn ask_the_others(
     ensures out { IfOk result (λ turn. turn ≡ (fixed state.old order from leaf.now).out) }
 {
     let letters = ask_others(alloc, state, order.number, leaf, from)?;
-    let order = widen(alloc, state, order, from, leaf)?;
-    let next = lease_on(alloc, state, order)?;
+    let order = widened(alloc, state, order, from, leaf)?;
+    let next = leases_on(alloc, state, order)?;
     CoreTurn::letters(alloc, letters).with(next)
 }
 
 /// Goes on after a grant.
-fn grant(
+fn grants(
     alloc: Global,
     state: &mut BrickState,
     order: OpenOrder,
@@ -119,16 +119,16 @@ fn grant(
 {
     let (task, fixed) = (order.task, order.leaf);
     match task {
-        Task::Split => lease_on(alloc, state, order),
+        Task::Split => leases_on(alloc, state, order),
         Task::Join { via: _ } => match fixed {
-            None => fix(alloc, state, order, from, leaf),
-            Some(_) => lease_on(alloc, state, order),
+            None => fixes(alloc, state, order, from, leaf),
+            Some(_) => leases_on(alloc, state, order),
         },
     }
 }
 
 /// A member gave its lease.
-pub fn granted(
+pub fn granted_row(
     alloc: Global,
     state: &mut BrickState,
     from: NodeNo,
@@ -146,7 +146,7 @@ pub fn granted(
     };
     order.waiting = without(alloc, order.waiting.as_slice(), from)?;
     order.granted.push(from)?;
-    grant(alloc, state, order, from, leaf)
+    grants(alloc, state, order, from, leaf)
 }
 
 fn is_leasing_at(order: &Option<OpenOrder>, number: u64) -> bool
@@ -159,7 +159,7 @@ fn is_leasing_at(order: &Option<OpenOrder>, number: u64) -> bool
 }
 
 /// What an order met at a member.
-fn met(refusal: &Refusal, brick: NodeNo) -> Met
+fn met_of(refusal: &Refusal, brick: NodeNo) -> Met
     ensures { result ≡ met_of refusal.now brick }
 {
     match refusal {
@@ -170,7 +170,7 @@ fn met(refusal: &Refusal, brick: NodeNo) -> Met
 }
 
 /// A member refused its lease: the order ends.
-pub fn lease_refused(
+pub fn lease_refused_row(
     alloc: Global,
     state: &mut BrickState,
     from: NodeNo,
@@ -186,7 +186,12 @@ pub fn lease_refused(
     let Some(order) = state.order.take() else {
         return Ok(CoreTurn::new(alloc));
     };
-    end(alloc, state, order, OrderReply::Refused(met(refusal, from)))
+    ends(
+        alloc,
+        state,
+        order,
+        OrderReply::Refused(met_of(refusal, from)),
+    )
 }
 
 fn is_installing_at(order: &Option<OpenOrder>, number: u64) -> bool
@@ -201,7 +206,7 @@ fn is_installing_at(order: &Option<OpenOrder>, number: u64) -> bool
 }
 
 /// A member serves the leaf that was made.
-pub fn installed(
+pub fn installed_row(
     alloc: Global,
     state: &mut BrickState,
     from: NodeNo,
@@ -218,10 +223,10 @@ pub fn installed(
     };
     let phase = order.phase;
     order.waiting = without(alloc, order.waiting.as_slice(), from)?;
-    install_next(alloc, state, order, phase)
+    installed_in(alloc, state, order, phase)
 }
 
-fn install_next(
+fn installed_in(
     alloc: Global,
     state: &mut BrickState,
     order: OpenOrder,
@@ -232,7 +237,7 @@ fn install_next(
     ensures out { IfOk result (λ turn. turn ≡ (installed_in state.old order phase).out) }
 {
     match phase {
-        OrderPhase::Installing { made } => install_on(alloc, state, order, &made),
+        OrderPhase::Installing { made } => installs_on(alloc, state, order, &made),
         _ => Ok(CoreTurn::new(alloc)),
     }
 }
@@ -302,7 +307,7 @@ fn copy_is_taken(order: &Option<OpenOrder>, number: u64, from: NodeNo, pairs: &[
 }
 
 /// Asks for the pairs after those that were copied, or installs the leaf behind the last ones.
-fn copy_on(
+fn copied_on(
     alloc: Global,
     state: &mut BrickState,
     order: OpenOrder,
@@ -330,7 +335,7 @@ fn copied_all(alloc: Global, state: &mut BrickState, order: OpenOrder) -> Result
 {
     let leaf = order.leaf;
     match leaf {
-        Some(leaf) => install(alloc, state, order, &leaf),
+        Some(leaf) => installs(alloc, state, order, &leaf),
         None => {
             state.order = Some(order);
             Ok(CoreTurn::new(alloc))
@@ -349,7 +354,7 @@ fn extend(mut order: OpenOrder, pairs: &[Pair]) -> Result<OpenOrder, Memory>
 }
 
 /// The source's next pairs came.
-pub fn copy_part(
+pub fn copy_part_row(
     alloc: Global,
     state: &mut BrickState,
     from: NodeNo,
@@ -367,5 +372,5 @@ pub fn copy_part(
         return Ok(CoreTurn::new(alloc));
     };
     let order = extend(order, pairs)?;
-    copy_on(alloc, state, order, from, last)
+    copied_on(alloc, state, order, from, last)
 }

@@ -13,8 +13,8 @@ ghost use Rattle.dds_states.specs.Turn.{to_each, unknown_others};
 ghost use Rattle.dds_states.specs.declared.brick_state.OrderPhase.TheVariants.{Leasing};
 ghost use Rattle.dds_order_rows.specs.OwnOrder.{join_order, split_order, split_opens, new_split, split_named, split_leaf, opens, is_worn};
 
-use crate::finishing::{answer, end};
-use crate::going_on::{install, install_on, lease_on};
+use crate::finishing::{answer, ends};
+use crate::going_on::{installs, installs_on, leases_on};
 use dds_base::leaf::Leaf;
 use dds_base::memory::Memory;
 use dds_base::name::LeafName;
@@ -82,7 +82,7 @@ fn is_no_source(state: &BrickState, via: NodeNo) -> bool
 }
 
 /// The order to join: refused by the first reason that holds, or asks `via` for a lease of the name.
-pub fn join(
+pub fn join_order(
     alloc: Global,
     state: &mut BrickState,
     name: LeafName,
@@ -152,7 +152,7 @@ fn new_split(alloc: Global, state: &BrickState, leaf: Leaf) -> Result<OpenOrder,
 }
 
 /// Leases the leaf to the brick itself and asks every other member.
-fn open_split(alloc: Global, state: &mut BrickState, leaf: Leaf) -> Result<CoreTurn, Memory>
+fn split_opens(alloc: Global, state: &mut BrickState, leaf: Leaf) -> Result<CoreTurn, Memory>
     requires { leased state.old.locks.leases leaf.name ≡ None }
     ensures state { OnOk result (state.new ≡ (split_opens state.old leaf).state) }
     ensures out { IfOk result (λ turn. turn ≡ (split_opens state.old leaf).out) }
@@ -161,12 +161,16 @@ fn open_split(alloc: Global, state: &mut BrickState, leaf: Leaf) -> Result<CoreT
     let order = new_split(alloc, state, leaf)?;
     state.locks.lease(leaf.name, state.number)?;
     state.orders = state.orders.checked_add(1).ok_or(Memory)?;
-    let next = lease_on(alloc, state, order)?;
+    let next = leases_on(alloc, state, order)?;
     CoreTurn::letters(alloc, letters).with(next)
 }
 
 /// The order to split: refused by the first reason that holds.
-pub fn split(alloc: Global, state: &mut BrickState, name: LeafName) -> Result<CoreTurn, Memory>
+pub fn split_order(
+    alloc: Global,
+    state: &mut BrickState,
+    name: LeafName,
+) -> Result<CoreTurn, Memory>
     ensures state { OnOk result (state.new ≡ (split_order state.old name).state) }
     ensures out { IfOk result (λ turn. turn ≡ (split_order state.old name).out) }
 {
@@ -199,5 +203,5 @@ fn split_leaf(alloc: Global, state: &mut BrickState, leaf: Leaf) -> Result<CoreT
     if state.locks.any_under(leaf.name) {
         return answer(alloc, OrderReply::Refused(Met::Lock { brick }));
     }
-    open_split(alloc, state, leaf)
+    split_opens(alloc, state, leaf)
 }

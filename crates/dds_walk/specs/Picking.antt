@@ -1,5 +1,6 @@
 -- The events that are possible, and which of them a picker picks.
-use Rattle.std.specs.Prelude.{ℕ, ◌+◌, ◌-◌, ◌%◌, ◌==◌, Bool, List, [], ◌∷◌, ◌++◌, Option, Some, None, length, count_by, nat_lt, position, slice_get, if◌then◌else◌, zero, suc}
+use Rattle.std.specs.Prelude.{ℕ, ◌+◌, ◌-◌, ◌%◌, ◌==◌, Bool, List, [], ◌∷◌, ◌++◌, Option, Some, None, length, count_by, nat_lt, position, slice_get}
+use Rattle.std.specs.Prelude.{if◌then◌else◌, zero, suc}
 use Rattle.rand_pcg.specs.Lcg.{started, increment_of}
 use Rattle.rand_pcg.specs.Pcg.{multiplier_64, pcg32}
 use Rattle.dds_base.specs.declared.number.NodeNo.{NodeNo}

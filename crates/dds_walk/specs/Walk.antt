@@ -1,6 +1,7 @@
 -- The steps that a script determines, and its transcript over a journal.
 pub use Rattle.dds_cluster.specs.Lists.{is_asked}
-use Rattle.std.specs.Prelude.{ℕ, ◌+◌, ◌==◌, Bool, true, false, not, ◌&&◌, ◌||◌, List, [], ◌∷◌, ◌++◌, Option, Some, None, drop, is_some, length, map, replicate, slice_get, slice_index_or, slice_set, if◌then◌else◌, zero, suc}
+use Rattle.std.specs.Prelude.{ℕ, ◌+◌, ◌==◌, Bool, true, false, not, ◌&&◌, ◌||◌, List, [], ◌∷◌, ◌++◌, Option, Some, None, drop, is_some, length, map}
+use Rattle.std.specs.Prelude.{replicate, slice_get, slice_index_or, slice_set, if◌then◌else◌, zero, suc}
 use Rattle.std.specs.List.{list_any, flat_map}
 use Rattle.dds_base.specs.Name.{Name, same_name}
 use Rattle.dds_base.specs.declared.leaf.Leaf.{Leaf}

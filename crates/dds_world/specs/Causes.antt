@@ -52,17 +52,17 @@ if_of_call false asked = None
 abbrev pub asked_of : BrickState → Asked → Letter → Option AskedOf
 asked_of s a (letter.Get txn caller call key name stamp) =
     if_of_call (caller == a.caller && call.0 == a.call.0)
-        (record { txn = txn; key = key; name = name; stamp = stamp; is_update = false; refusal = get_refusal s key name stamp })
+    (record { txn = txn; key = key; name = name; stamp = stamp; is_update = false; refusal = get_refusal s key name stamp })
 asked_of s a (letter.Prepare txn caller call below name stamp list op) =
     if_of_call (caller == a.caller && call.0 == a.call.0)
-        (record {
-            txn = txn;
-            key = the_key op;
-            name = name;
-            stamp = stamp;
-            is_update = true;
-            refusal = update_refusal s (the_key op) name stamp
-        })
+    (record {
+      txn = txn;
+      key = the_key op;
+      name = name;
+      stamp = stamp;
+      is_update = true;
+      refusal = update_refusal s (the_key op) name stamp;
+    })
 asked_of s a (letter.Commit txn) = None
 asked_of s a (letter.Abort txn) = None
 asked_of s a (letter.Push leaf) = None
@@ -139,9 +139,9 @@ pub record MetStopped (o : OpeningOf) (journal : List Step) (a : Asked) (told : 
   pub treats : Treats o journal a told before within after
   pub listed :
       (has (list_of_call (open_as before a)) brick
-          || (has (map_list before (the_key a.op)) brick
-              || (has (map_list within (the_key a.op)) brick || has (map_list after (the_key a.op)) brick)))
-          ≡ true
+      || (has (map_list before (the_key a.op)) brick
+      || (has (map_list within (the_key a.op)) brick || has (map_list after (the_key a.op)) brick)))
+      ≡ true
   pub stops : StopsBefore journal told.place brick
 
 -- a call answered Again met what its answer says. Proved of runs of the first opening without stops and orders alone, in

@@ -4,6 +4,9 @@ ghost use Rattle.std.specs.Prelude.{◌≡◌, map, filter, option_copied, IfOk}
 ghost use Rattle.dds_cluster.specs.Trace.{is_run, run_of};
 ghost use Rattle.dds_world.specs.Stands.{answer_to, calls, history, placed_call, stands_in};
 
+use dds_base::memory::Memory;
+use dds_base::number::{CallNo, CallerNo};
+use dds_base::op::Reply;
 use dds_cluster::made_list::MadeList;
 use dds_cluster::opening_world::start;
 use dds_cluster::possible::is_possible;
@@ -11,9 +14,6 @@ use dds_cluster::run::next;
 use dds_cluster::step::{Journal, Step};
 use dds_cluster::told_list::ToldList;
 use dds_cluster::trace::{Asked, Made, Told, Trace};
-use dds_base::memory::Memory;
-use dds_base::number::{CallNo, CallerNo};
-use dds_base::op::Reply;
 use dds_history::entry::Entry;
 use dds_script::opening::Opening;
 use std::alloc::Global;

@@ -2,7 +2,7 @@ use Rattle.std.proofs.Common.{◌≡◌}
 use Rattle.std.specs.Vec.Iter.{into_iter_items}
 use Rattle.dds_states.specs.Turn.{both}
 use Rattle.dds_core.specs.Notice.{asked_all_again}
-use Rattle.dds_core.proofs.notice.ask_all_again.Given as goal
+use Rattle.dds_core.proofs.notice.asked_all_again.Given as goal
 
 abbrev pub invariant-loop-letter : goal.invariant-loop-letter
 invariant-loop-letter l =

@@ -2,7 +2,7 @@ use Rattle.std.proofs.Common.{◌≡◌}
 use Rattle.std.specs.Vec.Iter.{into_iter_items}
 use Rattle.dds_states.specs.Turn.{both}
 use Rattle.dds_core.specs.Notice.{pendings_go}
-use Rattle.dds_core.proofs.notice.pendings_on.Given as goal
+use Rattle.dds_core.proofs.notice.pendings_go.Given as goal
 
 abbrev pub invariant-loop-txn : goal.invariant-loop-txn
 invariant-loop-txn l =
