@@ -2,3 +2,4 @@ pub mod Openings
 pub mod Handling
 pub mod Frames
 pub mod Sizes
+pub mod Keys

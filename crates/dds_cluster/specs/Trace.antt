@@ -1,8 +1,7 @@
 -- When a step is possible, and what is kept of a run.
+pub use Rattle.dds_cluster.specs.Lists.{is_applied, is_read_of, is_answer, is_asked}
 use Rattle.std.specs.Prelude.{ℕ, ◌+◌, ◌%◌, Bool, true, false, not, ◌&&◌, ◌==◌, List, [], ◌∷◌, ◌++◌, Option, Some, None, is_none, is_some, length, nat_lt}
 use Rattle.std.specs.Prelude.{nat_le, slice_get, slice_set, if◌then◌else◌, zero, suc}
-use Rattle.std.specs.List.{list_any}
-use Rattle.dds_base.specs.Number.{Txn, same_txn}
 use Rattle.dds_base.specs.Op.{is_get}
 use Rattle.dds_base.specs.declared.number.CallNo.{CallNo}
 use Rattle.dds_base.specs.declared.op.Order.{Order}
@@ -131,10 +130,6 @@ told_by at (replied.Order reply) = []
 abbrev pub told_at : ℕ → List Replied → List Told
 told_at at [] = []
 told_at at (r ∷ rs) = told_by at r ++ told_at at rs
-
--- the attempt has been applied already
-abbrev pub is_applied : List Made → Txn → Bool
-is_applied made txn = list_any (λ m. same_txn m.txn txn && not (is_get m.entry.op)) made
 
 -- a read is kept; of the applied points of an attempt the first is kept
 abbrev pub kept : List Made → Made → List Made

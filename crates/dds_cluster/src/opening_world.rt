@@ -6,11 +6,14 @@ ghost use Rattle.dds_maps.specs.Judge.{put_all};
 ghost use Rattle.dds_cluster.specs.World.{opening_world, new_brick, new_bricks, new_library, new_libraries};
 ghost use Rattle.dds_cluster.specs.Trace.{new_callers, start};
 
+use crate::asked_list::AskedList;
 use crate::cluster::Cluster;
 use crate::links::Links;
+use crate::made_list::MadeList;
 use crate::queue::Queue;
 use crate::step::Message;
 use crate::stopping::emptied;
+use crate::told_list::ToldList;
 use crate::trace::{Caller, Trace};
 use dds_base::items::Items;
 use dds_base::leaf::Leaf;
@@ -32,9 +35,9 @@ pub fn start(alloc: Global, opening: &Opening) -> Result<Trace, Memory>
         world: opening_world(alloc, opening)?,
         steps: 0,
         callers: new_callers(alloc, opening)?,
-        asked: Items::new(alloc),
-        made: Items::new(alloc),
-        told: Items::new(alloc),
+        asked: AskedList::new(alloc),
+        made: MadeList::new(alloc),
+        told: ToldList::new(alloc),
     })
 }
 

@@ -4,12 +4,15 @@ ghost use Rattle.std.specs.Prelude.{◌≡◌, ◌++◌, ◌&&◌, not, slice_ge
 ghost use Rattle.dds_base.specs.Op.{is_get};
 ghost use Rattle.dds_cluster.specs.Trace.{all_closed, asked_by, asked_in, closed_by, all_kept, is_applied, kept, next, opened_by, opened_in, opens, closes, replies_in, told_at, told_by};
 
+use crate::asked_list::AskedList;
+use crate::made_list::MadeList;
 use crate::possible::is_possible;
 use crate::step::{Input, Step};
+use crate::told_list::ToldList;
 use crate::trace::{Asked, Caller, Happened, Made, Told, Trace};
 use dds_base::items::Items;
 use dds_base::memory::Memory;
-use dds_base::number::{CallNo, CallerNo, TxnNo};
+use dds_base::number::{CallNo, CallerNo};
 use dds_states::turn::{Replied, ReplyList};
 use std::alloc::Global;
 
@@ -114,7 +117,7 @@ fn close_call(callers: &mut Items<Caller>, caller: CallerNo)
 }
 
 /// Notes the call that a step makes.
-fn ask(at: u64, step: &Step, asked: &mut Items<Asked>) -> Result<(), Memory>
+fn ask(at: u64, step: &Step, asked: &mut AskedList) -> Result<(), Memory>
     ensures { OnOk result (asked.new ≡ asked.old ++ asked_by at step.now) }
 {
     match step {
@@ -123,7 +126,7 @@ fn ask(at: u64, step: &Step, asked: &mut Items<Asked>) -> Result<(), Memory>
     }
 }
 
-fn ask_input(at: u64, input: &Input, asked: &mut Items<Asked>) -> Result<(), Memory>
+fn ask_input(at: u64, input: &Input, asked: &mut AskedList) -> Result<(), Memory>
     ensures { OnOk result (asked.new ≡ asked.old ++ asked_in at input.now) }
 {
     match input {
@@ -138,7 +141,7 @@ fn ask_input(at: u64, input: &Input, asked: &mut Items<Asked>) -> Result<(), Mem
 }
 
 /// Keeps reads, and of each attempt's applied points the first.
-fn keep_all(made: &mut Items<Made>, new: Items<Made>) -> Result<(), Memory>
+fn keep_all(made: &mut MadeList, new: Items<Made>) -> Result<(), Memory>
     ensures { OnOk result (made.new ≡ made.old ++ all_kept made.old new) }
 {
     for m in new.into_vec() {
@@ -147,30 +150,24 @@ fn keep_all(made: &mut Items<Made>, new: Items<Made>) -> Result<(), Memory>
     Ok(())
 }
 
-fn keep(made: &mut Items<Made>, m: Made) -> Result<(), Memory>
+fn keep(made: &mut MadeList, m: Made) -> Result<(), Memory>
     ensures { OnOk result (made.new ≡ made.old ++ kept made.old m) }
 {
-    if is_repeated(made.as_slice(), &m) {
+    if is_repeated(made, &m) {
         return Ok(());
     }
     made.push(m)
 }
 
 /// Whether a point is an update of an attempt that was applied before.
-fn is_repeated(made: &[Made], m: &Made) -> bool
+fn is_repeated(made: &MadeList, m: &Made) -> bool
     ensures { result ≡ (not (is_get m.now.entry.op) && is_applied made.now m.now.txn) }
 {
-    !m.entry.op.is_get() && is_applied(made, m.txn)
-}
-
-fn is_applied(made: &[Made], txn: TxnNo) -> bool
-    ensures { result ≡ is_applied made.now txn }
-{
-    made.iter().any(|m| m.txn == txn && !m.entry.op.is_get())
+    !m.entry.op.is_get() && made.is_applied(m.txn)
 }
 
 /// Notes the calls that are answered.
-fn tell_all(at: u64, replies: &[Replied], told: &mut Items<Told>) -> Result<(), Memory>
+fn tell_all(at: u64, replies: &[Replied], told: &mut ToldList) -> Result<(), Memory>
     ensures { OnOk result (told.new ≡ told.old ++ told_at at replies.now) }
 {
     for reply in replies {
@@ -179,7 +176,7 @@ fn tell_all(at: u64, replies: &[Replied], told: &mut Items<Told>) -> Result<(), 
     Ok(())
 }
 
-fn tell(at: u64, reply: &Replied, told: &mut Items<Told>) -> Result<(), Memory>
+fn tell(at: u64, reply: &Replied, told: &mut ToldList) -> Result<(), Memory>
     ensures { OnOk result (told.new ≡ told.old ++ told_by at reply.now) }
 {
     match reply {

@@ -2,7 +2,10 @@
 
 ghost use Rattle.std.specs.Prelude.{◌≡◌, []};
 
+use crate::asked_list::AskedList;
 use crate::cluster::Cluster;
+use crate::made_list::MadeList;
+use crate::told_list::ToldList;
 use dds_base::items::Items;
 use dds_base::number::{CallNo, CallerNo, NodeNo, TxnNo};
 use dds_base::op::{Op, Reply};
@@ -52,9 +55,9 @@ pub struct Trace {
     pub world: Cluster,
     pub steps: u64,
     pub callers: Items<Caller>,
-    pub asked: Items<Asked>,
-    pub made: Items<Made>,
-    pub told: Items<Told>,
+    pub asked: AskedList,
+    pub made: MadeList,
+    pub told: ToldList,
 }
 
 /// What a step gives besides the cluster after it: its points, and its answers.

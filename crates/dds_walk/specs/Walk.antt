@@ -1,4 +1,5 @@
 -- The steps that a script determines, and its transcript over a journal.
+pub use Rattle.dds_cluster.specs.Lists.{is_asked}
 use Rattle.std.specs.Prelude.{ℕ, ◌+◌, ◌==◌, Bool, true, false, not, ◌&&◌, ◌||◌, List, [], ◌∷◌, ◌++◌, Option, Some, None, drop, is_some, length, map}
 use Rattle.std.specs.Prelude.{replicate, slice_get, slice_index_or, slice_set, if◌then◌else◌, zero, suc}
 use Rattle.std.specs.List.{list_any, flat_map}
@@ -32,7 +33,6 @@ use Rattle.dds_cluster.specs.declared.step.Input.TheVariants as input
 use Rattle.dds_cluster.specs.declared.step.Step.{Step}
 use Rattle.dds_cluster.specs.declared.step.Step.TheVariants as step
 use Rattle.dds_cluster.specs.declared.step.TheConstants.{EVENTS}
-use Rattle.dds_cluster.specs.declared.trace.Asked.{Asked}
 use Rattle.dds_cluster.specs.declared.trace.Caller.{Caller}
 use Rattle.dds_cluster.specs.declared.trace.Trace.{Trace}
 use Rattle.dds_walk.specs.declared.picking.Picking.TheVariants.{Fifo}
@@ -201,9 +201,6 @@ plays_to caller call (x ∷ xs) w =
 
 -- a call line: its Input; where the caller's former call is open, none. Along a journal it is there that the Input is
 -- looked for: it may have been made with an earlier line's
-abbrev pub is_asked : List Asked → ℕ → CallNo → Bool
-is_asked asked caller call = list_any (λ a. a.caller == caller && a.call.0 == call.0) asked
-
 abbrev pub call_along : Walk → CallerNo → CallNo → List Step → Walk
 call_along w caller call rest =
     if is_asked w.trace.asked caller call then w

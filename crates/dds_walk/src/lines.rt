@@ -4,7 +4,7 @@ ghost use Rattle.std.specs.Prelude.{◌≡◌, ◌+◌, ◌++◌, Option, is_som
 ghost use Rattle.std.specs.List.{list_any};
 ghost use Rattle.dds_cluster.specs.declared.step.Step.TheVariants as step;
 ghost use Rattle.dds_cluster.specs.declared.step.Input.TheVariants as input;
-ghost use Rattle.dds_walk.specs.Walk.{call_alone, call_along, call_line, call_with, counted, is_asked, line_done, lines_done, makes_call, makes_call_at, plays_to, rest_of, step_line, stop_line, tries};
+ghost use Rattle.dds_walk.specs.Walk.{call_alone, call_along, call_line, call_with, counted, line_done, lines_done, makes_call, makes_call_at, plays_to, rest_of, step_line, stop_line, tries};
 
 use crate::moving::{events_line, quiet_line};
 use crate::picking::Picking;
@@ -21,7 +21,7 @@ use dds_transcript::report_line::ReportLine;
 use dds_cluster::possible::is_possible;
 use dds_cluster::queue::Queue;
 use dds_cluster::step::{Input, Step};
-use dds_cluster::trace::{Asked, Caller};
+use dds_cluster::trace::Caller;
 use std::alloc::Global;
 
 /// Walks lines, one after another. A `quiet` makes at most so many events.
@@ -176,7 +176,7 @@ fn state_of(callers: &[Caller], caller: CallerNo) -> Option<Caller>
 fn call_along(alloc: Global, walk: &mut Walk, caller: CallerNo, call: CallNo) -> Result<(), Memory>
     ensures { OnOk result (walk.new ≡ call_along walk.old caller call (rest_of walk.old.rest)) }
 {
-    if is_asked(walk.trace.as_trace().asked.as_slice(), caller, call) {
+    if walk.trace.as_trace().asked.is_asked(caller, call) {
         return Ok(());
     }
     if has_call(&walk.rest, caller, call) {
@@ -242,12 +242,4 @@ pub fn take_rest(alloc: Global, walk: &mut Walk) -> Queue<Step>
         Some(rest) => rest,
         None => Queue::new(alloc),
     }
-}
-
-fn is_asked(asked: &[Asked], caller: CallerNo, call: CallNo) -> bool
-    ensures { result ≡ is_asked asked.now caller call }
-{
-    asked
-        .iter()
-        .any(|a| a.caller == caller && a.call.0 == call.0)
 }

@@ -19,7 +19,8 @@ use dds_transcript::report_line::{OrderKind, ReportLine};
 use dds_cluster::queue::Queue;
 use dds_world::runs::stands_in;
 use dds_cluster::step::{EVENTS, Input, Journal, Step};
-use dds_cluster::trace::{Caller, Made, Told};
+use dds_cluster::told_list::ToldList;
+use dds_cluster::trace::{Caller, Made};
 use std::alloc::Global;
 
 /// The steps of a walk, and the lines that it printed.
@@ -68,7 +69,7 @@ fn ended(walk: Walk) -> Result<Walked, Memory>
     let trace = trace.into_trace();
     push_open_calls(&mut lines, trace.callers.as_slice())?;
     push_open_orders(&mut lines, orders.as_slice())?;
-    let entries = count_entries(trace.made.as_slice(), trace.told.as_slice())?;
+    let entries = count_entries(trace.made.as_slice(), &trace.told)?;
     lines.push(ReportLine::History { entries })?;
     lines.push(ReportLine::End)?;
     Ok(Walked {
@@ -237,7 +238,7 @@ fn brick_of(place: usize) -> Option<NodeNo>
 }
 
 /// How many points stand in the history.
-fn count_entries(made: &[Made], told: &[Told]) -> Result<u64, Memory>
+fn count_entries(made: &[Made], told: &ToldList) -> Result<u64, Memory>
     ensures { IfOk result (λ entries. entries ≡ length (filter (stands_in told.now) made.now)) }
 {
     let mut entries: u64 = 0;

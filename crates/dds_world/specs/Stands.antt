@@ -1,7 +1,7 @@
 -- What the headline says of a run: its calls stand in one legal history.
+pub use Rattle.dds_cluster.specs.Lists.{is_read_of, is_answer}
 use Rattle.std.specs.Prelude.{ℕ, ◌+◌, ◌<◌, ◌≡◌, ◌⊎◌, Bool, true, false, not, ◌&&◌, ◌||◌, ◌==◌, List, [], ◌∷◌, Option, Some, None, map, filter, if◌then◌else◌}
-use Rattle.std.specs.List.{list_any, AllByRecursion}
-use Rattle.dds_base.specs.Number.{Txn, same_txn}
+use Rattle.std.specs.List.{AllByRecursion}
 use Rattle.dds_base.specs.Op.{is_get}
 use Rattle.dds_base.specs.declared.number.CallNo.{CallNo}
 use Rattle.dds_base.specs.declared.op.Reply.{Reply}
@@ -13,15 +13,6 @@ use Rattle.dds_cluster.specs.declared.trace.Asked.{Asked}
 use Rattle.dds_cluster.specs.declared.trace.Made.{Made}
 use Rattle.dds_cluster.specs.declared.trace.Told.{Told}
 use Rattle.dds_cluster.specs.declared.trace.Trace.{Trace}
-
--- an answer is what this attempt read
-abbrev pub is_read_of : Txn → Option Txn → Bool
-is_read_of txn None = false
-is_read_of txn (Some read) = same_txn read txn
-
--- a read's attempt answered its call
-abbrev pub is_answer : List Told → Txn → Bool
-is_answer told txn = list_any (λ r. is_read_of txn r.read) told
 
 -- a point stands in the history: each first applied point, and each read whose answer the call was given
 abbrev pub stands_in : List Told → Made → Bool

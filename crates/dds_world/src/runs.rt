@@ -2,16 +2,17 @@
 
 ghost use Rattle.std.specs.Prelude.{◌≡◌, map, filter, option_copied, IfOk};
 ghost use Rattle.dds_cluster.specs.Trace.{is_run, run_of};
-ghost use Rattle.dds_world.specs.Stands.{answer_to, calls, history, is_answer, is_read_of, placed_call, stands_in};
+ghost use Rattle.dds_world.specs.Stands.{answer_to, calls, history, placed_call, stands_in};
 
-use dds_base::items::Items;
 use dds_base::memory::Memory;
-use dds_base::number::{CallNo, CallerNo, TxnNo};
+use dds_base::number::{CallNo, CallerNo};
 use dds_base::op::Reply;
+use dds_cluster::made_list::MadeList;
 use dds_cluster::opening_world::start;
 use dds_cluster::possible::is_possible;
 use dds_cluster::run::next;
 use dds_cluster::step::{Journal, Step};
+use dds_cluster::told_list::ToldList;
 use dds_cluster::trace::{Asked, Made, Told, Trace};
 use dds_history::entry::Entry;
 use dds_script::opening::Opening;
@@ -60,10 +61,10 @@ pub fn history(alloc: Global, opening: &Opening, journal: &Journal) -> Result<Ve
 {
     let trace = run_of(alloc, opening, journal.as_slice())?;
     let Trace { made, told, .. } = trace;
-    history_of(alloc, made, told.as_slice())
+    history_of(alloc, made, &told)
 }
 
-fn history_of(alloc: Global, made: Items<Made>, told: &[Told]) -> Result<Vec<Entry>, Memory>
+fn history_of(alloc: Global, made: MadeList, told: &ToldList) -> Result<Vec<Entry>, Memory>
     ensures { IfOk result (λ entries. entries.items ≡ map (λ m. m.entry) (filter (stands_in told.now) made)) }
 {
     let mut entries = Vec::new(alloc);
@@ -76,27 +77,10 @@ fn history_of(alloc: Global, made: Items<Made>, told: &[Told]) -> Result<Vec<Ent
 }
 
 /// Whether a point stands in the history.
-pub fn stands_in(told: &[Told], made: &Made) -> bool
+pub fn stands_in(told: &ToldList, made: &Made) -> bool
     ensures { result ≡ stands_in told.now made.now }
 {
-    !made.entry.op.is_get() || is_answer(told, made.txn)
-}
-
-/// Whether the read of an attempt answered its call.
-fn is_answer(told: &[Told], txn: TxnNo) -> bool
-    ensures { result ≡ is_answer told.now txn }
-{
-    told.iter().any(|t| is_read_of(txn, t.read))
-}
-
-/// Whether an answer is what this attempt read.
-fn is_read_of(txn: TxnNo, read: Option<TxnNo>) -> bool
-    ensures { result ≡ is_read_of txn read }
-{
-    match read {
-        None => false,
-        Some(read) => read == txn,
-    }
+    !made.entry.op.is_get() || told.is_answer(made.txn)
 }
 
 /// The calls of the journal, a run or not, in the order of their inputs.

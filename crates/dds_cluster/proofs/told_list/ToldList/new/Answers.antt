@@ -1,0 +1,9 @@
+use Rattle.dds_locks.specs.Outcomes.{txn_cmp}
+use Rattle.dds_cluster.proofs.Keys.{keys-none}
+use Rattle.dds_cluster.specs.Lists.{is_read_of}
+use Rattle.dds_cluster.specs.declared.trace.Told.{Told}
+use Rattle.dds_cluster.proofs.told_list.ToldList.new.Goals as goal
+
+pub invariant_of-result : goal.invariant_of-result
+invariant_of-result c =
+    keys-none txn_cmp (λ txn (r : Told). is_read_of txn r.read) c.new.result.items c.new.result.keys c.new.ensures.items c.new.ensures.keys
