@@ -1,4 +1,3 @@
-pub mod Worked
 pub mod Lists
 pub mod CallDoes
 pub mod CallTurns
@@ -7,4 +6,3 @@ pub mod Tells
 pub mod BrickTells
 pub mod OrderTells
 pub mod LetterTells
-pub mod Worked
