@@ -7,4 +7,3 @@ pub mod Tells
 pub mod BrickTells
 pub mod OrderTells
 pub mod LetterTells
-pub mod Worked
