@@ -102,24 +102,26 @@ says-ok o journal x u n from l s to b sent t back (lease_refused number what why
       true_then = sym (lease-is s what) ∙ true_then;
     })
 
--- letters that refuse nothing say nothing
-nothing-ok : (o : OpeningOf) (journal : List Step) (u : Net) (n b : NodeNo) (sent : Letter) → Sends (λ to l. RefusesNothing l) b sent
-    → LetterOk o journal u n b sent
-nothing-ok o journal u n b (letter.Get txn caller call key name stamp) h = absurd h
-nothing-ok o journal u n b (letter.Prepare txn caller call below name stamp list op) h = absurd h
-nothing-ok o journal u n b (letter.Got txn (answer.Refused why)) h = absurd h
-nothing-ok o journal u n b (letter.Got txn other) h = tt
-nothing-ok o journal u n b (letter.Vote txn ballot.Yes) h = tt
-nothing-ok o journal u n b (letter.Vote txn (ballot.No why)) h = absurd h
-nothing-ok o journal u n b (letter.LeaseRefused number why) h = absurd h
-nothing-ok o journal u n b other h = tt
+-- a letter that refuses nothing says nothing
+abbrev pub NoRefusal : NodeNo → Letter → Type 0
+NoRefusal to l = RefusesNothing l
+
+nothing-ok : (o : OpeningOf) (journal : List Step) (u : Net) (n b to : NodeNo) (sent : Letter) → Sends NoRefusal to sent → LetterOk o journal u n b sent
+nothing-ok o journal u n b to (letter.Get txn caller call key name stamp) h = absurd h
+nothing-ok o journal u n b to (letter.Prepare txn caller call below name stamp list op) h = absurd h
+nothing-ok o journal u n b to (letter.Got txn (answer.Refused why)) h = absurd h
+nothing-ok o journal u n b to (letter.Got txn other) h = tt
+nothing-ok o journal u n b to (letter.Vote txn ballot.Yes) h = tt
+nothing-ok o journal u n b to (letter.Vote txn (ballot.No why)) h = absurd h
+nothing-ok o journal u n b to (letter.LeaseRefused number why) h = absurd h
+nothing-ok o journal u n b to other h = tt
 
 sends-ok : (o : OpeningOf) (journal : List Step) (x : Step) (u : Net) (n from : NodeNo) (l : Letter) (s : BrickState) (to b : NodeNo) (sent : Letter)
     → TakesNow o journal x u n from l s → (to ≡ from → from ≡ b) → Sends (Says s from l) to sent → LetterOk o (Grown journal x) u n b sent
 sends-ok o journal x u n from l s to b (letter.Got txn a) t back h =
-    says-ok o journal x u n from l s to b (letter.Got txn a) t back h (λ r. nothing-ok o (Grown journal x) u n b (letter.Got txn a) r)
+    says-ok o journal x u n from l s to b (letter.Got txn a) t back h (λ r. nothing-ok o (Grown journal x) u n b to (letter.Got txn a) r)
 sends-ok o journal x u n from l s to b (letter.Vote txn vote) t back h =
-    says-ok o journal x u n from l s to b (letter.Vote txn vote) t back h (λ r. nothing-ok o (Grown journal x) u n b (letter.Vote txn vote) r)
+    says-ok o journal x u n from l s to b (letter.Vote txn vote) t back h (λ r. nothing-ok o (Grown journal x) u n b to (letter.Vote txn vote) r)
 sends-ok o journal x u n from l s to b (letter.LeaseRefused number why) t back h =
     says-ok o journal x u n from l s to b (letter.LeaseRefused number why) t back h (λ r. absurd r)
 sends-ok o journal x u n from l s to b (letter.Get txn caller call key name stamp) t back h = absurd h
@@ -135,21 +137,10 @@ turn-news o journal x u n from l s ls t h b inside =
     (sym (lands-is z from b t.few t.first.sender inside) ∙ ap (λ i. lands z i b) (sym home) ∙ comes)) k) h
 
 -- a brick that is told an order refuses nothing in letters
-abbrev pub NoneSaid : NodeNo → Letter → Type 0
-NoneSaid to l = ⊥
-
-none-ok : (o : OpeningOf) (journal : List Step) (u : Net) (n b to : NodeNo) (sent : Letter) → Sends NoneSaid to sent → LetterOk o journal u n b sent
-none-ok o journal u n b to (letter.Get txn caller call key name stamp) h = absurd h
-none-ok o journal u n b to (letter.Prepare txn caller call below name stamp list op) h = absurd h
-none-ok o journal u n b to (letter.Got txn a) h = absurd h
-none-ok o journal u n b to (letter.Vote txn vote) h = absurd h
-none-ok o journal u n b to (letter.LeaseRefused number why) h = absurd h
-none-ok o journal u n b to other h = tt
-
-pub order-news : (o : OpeningOf) (journal : List Step) (u : Net) (z : Sizes) (n : NodeNo) (ls : List (NodeNo × Letter)) → AllSends NoneSaid ls
+pub order-news : (o : OpeningOf) (journal : List Step) (u : Net) (z : Sizes) (n : NodeNo) (ls : List (NodeNo × Letter)) → AllSends NoRefusal ls
     → News (LetterOk o journal u) z n ls
 order-news o journal u z n ls h b inside =
-    all-map (λ (p : NodeNo × Letter). Sends NoneSaid p.0 p.1) (Lands (LetterOk o journal u) z n b) ls (λ p k comes. none-ok o journal u n b p.0 p.1 k) h
+    all-map (λ (p : NodeNo × Letter). Sends NoRefusal p.0 p.1) (Lands (LetterOk o journal u) z n b) ls (λ p k comes. nothing-ok o journal u n b p.0 p.1 k) h
 
 -- What an order is answered
 

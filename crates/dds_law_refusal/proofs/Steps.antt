@@ -9,7 +9,8 @@ use Rattle.dds_core.specs.Brick.{brick_input, live_brick_turn}
 use Rattle.dds_core.specs.LibraryTurn.{live_library_turn, new_request}
 use Rattle.dds_core.proofs.LetterTells.{letter-tells}
 use Rattle.dds_core.proofs.LetterTells.{heard as told}
-use Rattle.dds_core.proofs.LibraryAttempts.{AllFrom, Attempts, FromLibrary, IsCallReply, IsSent, input-attempts, library-attempts}
+use Rattle.dds_core.proofs.CallAttempts.{AllFrom, FromLibrary}
+use Rattle.dds_core.proofs.LibraryAttempts.{Attempts, IsCallReply, IsSent, input-attempts, library-attempts}
 use Rattle.dds_core.proofs.Lists.{all-map}
 use Rattle.dds_core.proofs.OrderTells.{order-tells}
 use Rattle.dds_core.proofs.Tells.{Who}
@@ -29,7 +30,7 @@ use Rattle.dds_net.proofs.Letters.{first-all}
 use Rattle.dds_net.specs.Event.{Event, nothing, unheard, unasked, brick_takes, brick_told, brick_stops, library_takes, library_asked, library_stops}
 use Rattle.dds_net.specs.Event.{Takes, asked_turn, moved, replies_of}
 use Rattle.dds_net.specs.Net.{Net, Node, a_brick, a_library, put, sizes_of}
-use Rattle.dds_law_refusal.proofs.Bricks.{NoneSaid, ReplyOk, TakesNow, input-replies, order-news, turn-news, turn-replies}
+use Rattle.dds_law_refusal.proofs.Bricks.{NoRefusal, ReplyOk, TakesNow, input-replies, order-news, turn-news, turn-replies}
 use Rattle.dds_law_refusal.proofs.Calls.{new-kept, turn-kept}
 use Rattle.dds_law_refusal.proofs.Good.{AllLast, CallOk, IsGood, Lasts, LetterOk, NodeOk, TiedAt, TiedIn, calls-later, letter-later, letters-later, node-later}
 
@@ -144,7 +145,7 @@ done o journal x (brick_told at ord s) few g next =
     let f = next.fits in
     let n = net_of o journal in
     let own = own-number o journal n at s g f.here in
-    let tells = order-tells {L = NoneSaid} s ord in
+    let tells = order-tells {L = NoRefusal} s ord in
     record {
       becomes = (λ txn caller call tie. tt, ap (λ (w : Who). w.number) tells.same ∙ own);
       sends = λ last. order-news o (Grown journal x) (moved (sizes_of o) n (brick_told at ord s)) (sizes_of o) at (brick_input s ord).out.letters tells.letters;
