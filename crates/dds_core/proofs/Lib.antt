@@ -2,6 +2,7 @@ pub mod Worked
 pub mod Lists
 pub mod CallDoes
 pub mod CallTurns
+pub mod CallAttempts
 pub mod LibraryAttempts
 pub mod Tells
 pub mod BrickTells
