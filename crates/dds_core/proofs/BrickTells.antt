@@ -1,4 +1,4 @@
-use Rattle.std.proofs.Common.{◌≡◌, ℕ, ◌++◌, Bool, true, false, Option, Some, None, List, [], ◌∷◌, refl}
+use Rattle.std.proofs.Common.{◌≡◌, ℕ, Bool, true, false, Option, Some, None, List, [], ◌∷◌, refl}
 use Rattle.std.specs.FinMap.{get}
 use Rattle.std.specs.Prelude.{if◌then◌else◌}
 use Rattle.dds_base.specs.Name.{Name}
@@ -18,7 +18,6 @@ use Rattle.dds_letters.specs.declared.refusal.Denial.{Denial}
 use Rattle.dds_letters.specs.declared.refusal.Refusal.{Refusal}
 use Rattle.dds_states.specs.Turn.{sends, unknown_others}
 use Rattle.dds_states.specs.declared.brick_state.BrickState.{BrickState}
-use Rattle.dds_states.specs.declared.brick_state.Question.{Question}
 use Rattle.dds_states.specs.declared.brick_state.Resolving.{Resolving}
 use Rattle.dds_core.proofs.Tells.{Given, Sent, Tells, sent-each, tells-from, tells-if, tells-sends, tells-still, tells-then, who}
 

@@ -44,8 +44,10 @@ use Rattle.dds_trie.specs.Trie.{LeafMap, put}
 
 -- an attempt begins, or the call asks for a newer map or is answered Again because of something met, of which M holds
 pub data Begins (M : Met → Type 0) (d : Desk) (r : Request) : CallTurn → Type 0 where
-  gets : (leaf : Leaf) (m : NodeNo) (ms : List NodeNo) (key : ℕ) → leaf_for d.map (the_key r.op) ≡ Some leaf → unknown leaf.list d.known ≡ m ∷ ms → r.op ≡ op.Get key → Begins M d r (get_begins d r leaf (got_from (m ∷ ms) r) key)
-  prepares : (leaf : Leaf) (m : NodeNo) (ms : List NodeNo) → leaf_for d.map (the_key r.op) ≡ Some leaf → unknown leaf.list d.known ≡ m ∷ ms → is_get r.op ≡ false → Begins M d r (update_begins d r leaf (m ∷ ms))
+  gets : (leaf : Leaf) (m : NodeNo) (ms : List NodeNo) (key : ℕ) → leaf_for d.map (the_key r.op) ≡ Some leaf → unknown leaf.list d.known ≡ m ∷ ms
+      → r.op ≡ op.Get key → Begins M d r (get_begins d r leaf (got_from (m ∷ ms) r) key)
+  prepares : (leaf : Leaf) (m : NodeNo) (ms : List NodeNo) → leaf_for d.map (the_key r.op) ≡ Some leaf → unknown leaf.list d.known ≡ m ∷ ms
+      → is_get r.op ≡ false → Begins M d r (update_begins d r leaf (m ∷ ms))
   looks : (m : Met) (n : NodeNo) (ns : List NodeNo) → live_bricks d ≡ n ∷ ns → M m → Begins M d r (asks d r m (n ∷ ns))
   alone : (m : Met) → live_bricks d ≡ [] → M m → Begins M d r (asks d r m [])
   gives_up : (m : Met) → M m → Begins M d r (replies d (reply.Again m))
@@ -60,7 +62,8 @@ pub record IsStop (m : Met) : Type 0 where
 -- kept while it asked for a newer map, or that a brick has stopped
 pub data Meets (c : OpenCall) (from : NodeNo) (l : Letter) (m : Met) : Type 0 where
   in_letter : (txn : Txn) (why : Refusal) → l ≡ letter.Got txn (answer.Refused why) → met_of why from ≡ m → Meets c from l m
-  in_vote : (waiting : List NodeNo) (why : Refusal) (brick : NodeNo) → c.phase ≡ phase.Aborting waiting (denial.Refused why) brick → met_of why brick ≡ m → Meets c from l m
+  in_vote : (waiting : List NodeNo) (why : Refusal) (brick : NodeNo) → c.phase ≡ phase.Aborting waiting (denial.Refused why) brick → met_of why brick ≡ m
+      → Meets c from l m
   kept : (waiting : List NodeNo) (newest : Option Leaf) → c.phase ≡ phase.Asking waiting newest m → Meets c from l m
   a_stop : IsStop m → Meets c from l m
 
@@ -74,20 +77,35 @@ Waited waiting = is_none_left waiting ≡ false
 
 pub data CallDoes (d : Desk) (c : OpenCall) (from : NodeNo) (l : Letter) : CallTurn → Type 0 where
   idles : CallDoes d c from l (stays d [] c)
-  reads : (leaf : Leaf) (brick : NodeNo) (txn : Txn) (value : List ℕ) → c.phase ≡ phase.Getting leaf brick → l ≡ letter.Got txn (answer.Value value) → CallDoes d c from l (replies d (reply.Value value))
-  reads_none : (leaf : Leaf) (brick : NodeNo) (txn : Txn) → c.phase ≡ phase.Getting leaf brick → l ≡ letter.Got txn answer.Absent → CallDoes d c from l (replies d reply.Absent)
+  reads : (leaf : Leaf) (brick : NodeNo) (txn : Txn) (value : List ℕ) → c.phase ≡ phase.Getting leaf brick → l ≡ letter.Got txn (answer.Value value)
+      → CallDoes d c from l (replies d (reply.Value value))
+  reads_none : (leaf : Leaf) (brick : NodeNo) (txn : Txn) → c.phase ≡ phase.Getting leaf brick → l ≡ letter.Got txn answer.Absent
+      → CallDoes d c from l (replies d reply.Absent)
   full : (waiting : List NodeNo) (brick : NodeNo) → c.phase ≡ phase.Aborting waiting denial.Full brick → CallDoes d c from l (replies d (reply.Full brick))
-  tries : (map : LeafMap) (retries : ℕ) (pushed : Bool) (ls : List (NodeNo × Letter)) (t : CallTurn) → ArePushes ls → Begins (Meets c from l) (record d { map = map }) (record c.request { retries = retries; pushed = pushed }) t → CallDoes d c from l (behind ls t)
-  votes : (leaf : Leaf) (list waiting : List NodeNo) → c.phase ≡ phase.Preparing leaf list waiting → has waiting from ≡ true → Waited (without waiting from) → CallDoes d c from l (stays d [] (record c { phase = phase.Preparing leaf list (without waiting from) }))
-  commits : (leaf : Leaf) (list waiting : List NodeNo) → c.phase ≡ phase.Preparing leaf list waiting → has waiting from ≡ true → is_none_left (without waiting from) ≡ true → CallDoes d c from l (stays d (to_each (unknown list d.known) (letter.Commit c.txn)) (record c { phase = phase.Committing leaf list (unknown list d.known) None }))
-  aborts : (leaf : Leaf) (list waiting : List NodeNo) (txn : Txn) (why : Denial) → c.phase ≡ phase.Preparing leaf list waiting → has waiting from ≡ true → l ≡ letter.Vote txn (ballot.No why) → CallDoes d c from l (stays d (to_each (unknown list d.known) (letter.Abort c.txn)) (record c { phase = phase.Aborting (unknown list d.known) why from }))
-  applies : (leaf : Leaf) (list waiting : List NodeNo) (was next : Option Bool) → c.phase ≡ phase.Committing leaf list waiting was → Waited (without waiting from) → CallDoes d c from l (stays d [] (record c { phase = phase.Committing leaf list (without waiting from) next }))
-  done : (leaf : Leaf) (list waiting : List NodeNo) (was : Option Bool) (flag : Bool) → c.phase ≡ phase.Committing leaf list waiting was → is_none_left (without waiting from) ≡ true → CallDoes d c from l (replies d (reply_with c.request.op flag))
-  loses : (leaf : Leaf) (list waiting : List NodeNo) → c.phase ≡ phase.Committing leaf list waiting None → l ≡ letter.Notice → is_none_left (without waiting from) ≡ true → CallDoes d c from l (replies d (reply.Lost leaf.name))
-  waits_aborted : (waiting : List NodeNo) (why : Denial) (brick : NodeNo) → c.phase ≡ phase.Aborting waiting why brick → Waited (without waiting from) → CallDoes d c from l (stays d [] (record c { phase = phase.Aborting (without waiting from) why brick }))
-  waits_told : (waiting : List NodeNo) (newest next : Option Leaf) (m : Met) → c.phase ≡ phase.Asking waiting newest m → Waited (without waiting from) → CallDoes d c from l (stays d [] (record c { phase = phase.Asking (without waiting from) next m }))
+  tries : (map : LeafMap) (retries : ℕ) (pushed : Bool) (ls : List (NodeNo × Letter)) (t : CallTurn) → ArePushes ls
+      → Begins (Meets c from l) (record d { map = map }) (record c.request { retries = retries; pushed = pushed }) t → CallDoes d c from l (behind ls t)
+  votes : (leaf : Leaf) (list waiting : List NodeNo) → c.phase ≡ phase.Preparing leaf list waiting → has waiting from ≡ true → Waited (without waiting from)
+      → CallDoes d c from l (stays d [] (record c { phase = phase.Preparing leaf list (without waiting from) }))
+  commits : (leaf : Leaf) (list waiting : List NodeNo) → c.phase ≡ phase.Preparing leaf list waiting → has waiting from ≡ true
+      → is_none_left (without waiting from) ≡ true
+      → CallDoes d c from l (stays d (to_each (unknown list d.known) (letter.Commit c.txn))
+      (record c { phase = phase.Committing leaf list (unknown list d.known) None }))
+  aborts : (leaf : Leaf) (list waiting : List NodeNo) (txn : Txn) (why : Denial) → c.phase ≡ phase.Preparing leaf list waiting → has waiting from ≡ true
+      → l ≡ letter.Vote txn (ballot.No why) → CallDoes d c from l (stays d (to_each (unknown list d.known) (letter.Abort c.txn))
+      (record c { phase = phase.Aborting (unknown list d.known) why from }))
+  applies : (leaf : Leaf) (list waiting : List NodeNo) (was next : Option Bool) → c.phase ≡ phase.Committing leaf list waiting was
+      → Waited (without waiting from) → CallDoes d c from l (stays d [] (record c { phase = phase.Committing leaf list (without waiting from) next }))
+  done : (leaf : Leaf) (list waiting : List NodeNo) (was : Option Bool) (flag : Bool) → c.phase ≡ phase.Committing leaf list waiting was
+      → is_none_left (without waiting from) ≡ true → CallDoes d c from l (replies d (reply_with c.request.op flag))
+  loses : (leaf : Leaf) (list waiting : List NodeNo) → c.phase ≡ phase.Committing leaf list waiting None → l ≡ letter.Notice
+      → is_none_left (without waiting from) ≡ true → CallDoes d c from l (replies d (reply.Lost leaf.name))
+  waits_aborted : (waiting : List NodeNo) (why : Denial) (brick : NodeNo) → c.phase ≡ phase.Aborting waiting why brick → Waited (without waiting from)
+      → CallDoes d c from l (stays d [] (record c { phase = phase.Aborting (without waiting from) why brick }))
+  waits_told : (waiting : List NodeNo) (newest next : Option Leaf) (m : Met) → c.phase ≡ phase.Asking waiting newest m → Waited (without waiting from)
+      → CallDoes d c from l (stays d [] (record c { phase = phase.Asking (without waiting from) next m }))
 
-if-does : {d : Desk} {c : OpenCall} {from : NodeNo} {l : Letter} (b : Bool) (t u : CallTurn) → (b ≡ true → CallDoes d c from l t) → (b ≡ false → CallDoes d c from l u) → CallDoes d c from l (if b then t else u)
+if-does : {d : Desk} {c : OpenCall} {from : NodeNo} {l : Letter} (b : Bool) (t u : CallTurn) → (b ≡ true → CallDoes d c from l t)
+    → (b ≡ false → CallDoes d c from l u) → CallDoes d c from l (if b then t else u)
 if-does true t u f g = f refl
 if-does false t u f g = g refl
 
@@ -95,11 +113,13 @@ begins-looks : (M : Met → Type 0) (d : Desk) (r : Request) (m : Met) (ns : Lis
 begins-looks M d r m [] e h = alone m e h
 begins-looks M d r m (n ∷ ns) e h = looks m n ns e h
 
-begins-if : (M : Met → Type 0) (d : Desk) (r : Request) (m : Met) (b : Bool) → M m → Begins M d r (if b then replies d (reply.Again m) else asks d r m (live_bricks d))
+begins-if : (M : Met → Type 0) (d : Desk) (r : Request) (m : Met) (b : Bool) → M m
+    → Begins M d r (if b then replies d (reply.Again m) else asks d r m (live_bricks d))
 begins-if M d r m true h = gives_up m h
 begins-if M d r m false h = begins-looks M d r m (live_bricks d) refl h
 
-begins-op : (M : Met → Type 0) (d : Desk) (r : Request) (leaf : Leaf) (m : NodeNo) (ms : List NodeNo) (o : Op) → leaf_for d.map (the_key r.op) ≡ Some leaf → unknown leaf.list d.known ≡ m ∷ ms → r.op ≡ o → Begins M d r (attempt_begins d r leaf (m ∷ ms) o)
+begins-op : (M : Met → Type 0) (d : Desk) (r : Request) (leaf : Leaf) (m : NodeNo) (ms : List NodeNo) (o : Op) → leaf_for d.map (the_key r.op) ≡ Some leaf
+    → unknown leaf.list d.known ≡ m ∷ ms → r.op ≡ o → Begins M d r (attempt_begins d r leaf (m ∷ ms) o)
 begins-op M d r leaf m ms (op.Get key) e f g = gets leaf m ms key e f g
 begins-op M d r leaf m ms other e f g = prepares leaf m ms e f (ap is_get g)
 
@@ -107,7 +127,8 @@ begins-op M d r leaf m ms other e f g = prepares leaf m ms e f (ap is_get g)
 abbrev OfStops : (Met → Type 0) → Type 0
 OfStops M = (m : Met) → IsStop m → M m
 
-begins-with : (M : Met → Type 0) (d : Desk) (r : Request) (leaf : Leaf) (ms : List NodeNo) → OfStops M → leaf_for d.map (the_key r.op) ≡ Some leaf → unknown leaf.list d.known ≡ ms → Begins M d r (begins_with d r leaf ms)
+begins-with : (M : Met → Type 0) (d : Desk) (r : Request) (leaf : Leaf) (ms : List NodeNo) → OfStops M → leaf_for d.map (the_key r.op) ≡ Some leaf
+    → unknown leaf.list d.known ≡ ms → Begins M d r (begins_with d r leaf ms)
 begins-with M d r leaf [] s e f =
     let m = met.Stopped (slice_index leaf.list 0) in
     begins-if M d r m (r.retries == RETRIES) (s m (record { brick = slice_index leaf.list 0; is = refl }))
@@ -125,7 +146,8 @@ pub new-begins : (d : Desk) (r : Request) → Begins IsStop d r (begin d r)
 new-begins d r = begins IsStop d r (λ m s. s)
 
 -- tries again, with this map and request
-again : {from : NodeNo} {l : Letter} (d : Desk) (c : OpenCall) (map : LeafMap) (retries : ℕ) (pushed : Bool) → CallDoes d c from l (begin (record d { map = map }) (record c.request { retries = retries; pushed = pushed }))
+again : {from : NodeNo} {l : Letter} (d : Desk) (c : OpenCall) (map : LeafMap) (retries : ℕ) (pushed : Bool)
+    → CallDoes d c from l (begin (record d { map = map }) (record c.request { retries = retries; pushed = pushed }))
 again {from = from} {l = l} d c map retries pushed =
     let e = record d { map = map } in
     let r = record c.request { retries = retries; pushed = pushed } in
@@ -138,7 +160,8 @@ does-ask {from = from} {l = l} d c m h =
 ends : {from : NodeNo} {l : Letter} (d : Desk) (c : OpenCall) (m : Met) → Meets c from l m → CallDoes d c from l (replies d (reply.Again m))
 ends d c m h = tries d.map c.request.retries c.request.pushed [] (replies d (reply.Again m)) tt (gives_up m h)
 
-does-repairs : {from : NodeNo} {l : Letter} (d : Desk) (c : OpenCall) (to : NodeNo) (theirs : Leaf) (mine : Option Leaf) → CallDoes d c from l (repairs d (retried c.request) to theirs mine)
+does-repairs : {from : NodeNo} {l : Letter} (d : Desk) (c : OpenCall) (to : NodeNo) (theirs : Leaf) (mine : Option Leaf)
+    → CallDoes d c from l (repairs d (retried c.request) to theirs mine)
 does-repairs d c to theirs None = again d c (put d.map theirs) (retried c.request).retries c.request.pushed
 does-repairs {from = from} {l = l} d c to theirs (Some mine) =
     let n = (retried c.request).retries in
@@ -147,35 +170,42 @@ does-repairs {from = from} {l = l} d c to theirs (Some mine) =
     (λ e. tries d.map n true ((to, letter.Push mine) ∷ []) (begin d r) tt (begins (Meets c from l) d r (λ m s. a_stop s)))
     (λ e. if-does (same_leaf mine theirs) _ _ (λ f. again d c d.map n c.request.pushed) (λ f. again d c (put d.map theirs) n c.request.pushed))
 
-does-stale : {from : NodeNo} {l : Letter} (d : Desk) (c : OpenCall) (to : NodeNo) (leaf : Option Leaf) → Meets c from l (met.Stale to) → CallDoes d c from l (stale d c.request to leaf)
+does-stale : {from : NodeNo} {l : Letter} (d : Desk) (c : OpenCall) (to : NodeNo) (leaf : Option Leaf) → Meets c from l (met.Stale to)
+    → CallDoes d c from l (stale d c.request to leaf)
 does-stale d c to None h = does-ask d c (met.Stale to) h
 does-stale d c to (Some theirs) h =
     if-does (c.request.retries == RETRIES) _ _ (λ e. ends d c (met.Stale to) h) (λ e. does-repairs d c to theirs (leaf_for d.map (the_key c.request.op)))
 
-does-refused : {from : NodeNo} {l : Letter} (d : Desk) (c : OpenCall) (to : NodeNo) (why : Refusal) → Meets c from l (met_of why to) → CallDoes d c from l (refused d c.request to why)
+does-refused : {from : NodeNo} {l : Letter} (d : Desk) (c : OpenCall) (to : NodeNo) (why : Refusal) → Meets c from l (met_of why to)
+    → CallDoes d c from l (refused d c.request to why)
 does-refused d c to refusal.Lease h = ends d c (met.Lease to) h
 does-refused d c to refusal.Lock h = ends d c (met.Lock to) h
 does-refused d c to (refusal.Stale leaf) h = does-stale d c to leaf h
 
-does-denied : {from : NodeNo} {l : Letter} (d : Desk) (c : OpenCall) (waiting : List NodeNo) (to : NodeNo) (why : Denial) → c.phase ≡ phase.Aborting waiting why to → CallDoes d c from l (denied d c.request to why)
+does-denied : {from : NodeNo} {l : Letter} (d : Desk) (c : OpenCall) (waiting : List NodeNo) (to : NodeNo) (why : Denial)
+    → c.phase ≡ phase.Aborting waiting why to → CallDoes d c from l (denied d c.request to why)
 does-denied d c waiting to (denial.Refused why) e = does-refused d c to why (in_vote waiting why to e refl)
 does-denied d c waiting to denial.Full e = full waiting to e
 
-does-got : (d : Desk) (c : OpenCall) (from : NodeNo) (txn : Txn) (a : Answer) (p : Phase) → c.phase ≡ p → CallDoes d c from (letter.Got txn a) (got_in d c from a p)
+does-got : (d : Desk) (c : OpenCall) (from : NodeNo) (txn : Txn) (a : Answer) (p : Phase) → c.phase ≡ p
+    → CallDoes d c from (letter.Got txn a) (got_in d c from a p)
 does-got d c from txn answer.Absent (phase.Getting leaf brick) e = reads_none leaf brick txn e refl
 does-got d c from txn (answer.Value value) (phase.Getting leaf brick) e = reads leaf brick txn value e refl
 does-got d c from txn (answer.Refused why) (phase.Getting leaf brick) e = does-refused d c from why (in_letter txn why refl refl)
 does-got d c from txn a other e = idles
 
-does-votes : {l : Letter} (d : Desk) (c : OpenCall) (from : NodeNo) (leaf : Leaf) (list waiting : List NodeNo) → c.phase ≡ phase.Preparing leaf list waiting → has waiting from ≡ true → CallDoes d c from l (prepared_on d c leaf list (without waiting from))
+does-votes : {l : Letter} (d : Desk) (c : OpenCall) (from : NodeNo) (leaf : Leaf) (list waiting : List NodeNo) → c.phase ≡ phase.Preparing leaf list waiting
+    → has waiting from ≡ true → CallDoes d c from l (prepared_on d c leaf list (without waiting from))
 does-votes d c from leaf list waiting e h =
     if-does (is_none_left (without waiting from)) _ _ (λ f. commits leaf list waiting e h f) (λ f. votes leaf list waiting e h f)
 
-does-ballot : (d : Desk) (c : OpenCall) (from : NodeNo) (txn : Txn) (v : Ballot) (leaf : Leaf) (list waiting : List NodeNo) → c.phase ≡ phase.Preparing leaf list waiting → has waiting from ≡ true → CallDoes d c from (letter.Vote txn v) (vote_counted d c leaf list waiting from v)
+does-ballot : (d : Desk) (c : OpenCall) (from : NodeNo) (txn : Txn) (v : Ballot) (leaf : Leaf) (list waiting : List NodeNo)
+    → c.phase ≡ phase.Preparing leaf list waiting → has waiting from ≡ true → CallDoes d c from (letter.Vote txn v) (vote_counted d c leaf list waiting from v)
 does-ballot d c from txn ballot.Yes leaf list waiting e h = does-votes d c from leaf list waiting e h
 does-ballot d c from txn (ballot.No why) leaf list waiting e h = aborts leaf list waiting txn why e h refl
 
-does-vote : (d : Desk) (c : OpenCall) (from : NodeNo) (txn : Txn) (v : Ballot) (p : Phase) → c.phase ≡ p → CallDoes d c from (letter.Vote txn v) (vote_in d c from v p)
+does-vote : (d : Desk) (c : OpenCall) (from : NodeNo) (txn : Txn) (v : Ballot) (p : Phase) → c.phase ≡ p
+    → CallDoes d c from (letter.Vote txn v) (vote_in d c from v p)
 does-vote d c from txn v (phase.Preparing leaf list waiting) e =
     if-does (has waiting from) _ _ (λ h. does-ballot d c from txn v leaf list waiting e h) (λ h. idles)
 does-vote d c from txn v other e = idles
@@ -186,7 +216,8 @@ does-applied d c from flag (phase.Committing leaf list waiting was) e =
     if-does (is_none_left (without waiting from)) _ _ (λ f. done leaf list waiting was kept e f) (λ f. applies leaf list waiting was (Some kept) e f)
 does-applied d c from flag other e = idles
 
-does-aborting : {l : Letter} (d : Desk) (c : OpenCall) (from : NodeNo) (waiting : List NodeNo) (why : Denial) (brick : NodeNo) → c.phase ≡ phase.Aborting waiting why brick → CallDoes d c from l (aborted_on d c (without waiting from) why brick)
+does-aborting : {l : Letter} (d : Desk) (c : OpenCall) (from : NodeNo) (waiting : List NodeNo) (why : Denial) (brick : NodeNo)
+    → c.phase ≡ phase.Aborting waiting why brick → CallDoes d c from l (aborted_on d c (without waiting from) why brick)
 does-aborting d c from waiting why brick e =
     if-does (is_none_left (without waiting from)) _ _ (λ f. does-denied d c waiting brick why e) (λ f. waits_aborted waiting why brick e f)
 
@@ -194,23 +225,29 @@ does-aborted : {l : Letter} (d : Desk) (c : OpenCall) (from : NodeNo) (p : Phase
 does-aborted d c from (phase.Aborting waiting why brick) e = does-aborting d c from waiting why brick e
 does-aborted d c from other e = idles
 
-does-all : {from : NodeNo} {l : Letter} (d : Desk) (c : OpenCall) (newest : Option Leaf) (m : Met) → Meets c from l m → CallDoes d c from l (told_all d c.request newest m)
+does-all : {from : NodeNo} {l : Letter} (d : Desk) (c : OpenCall) (newest : Option Leaf) (m : Met) → Meets c from l m
+    → CallDoes d c from l (told_all d c.request newest m)
 does-all d c None m h = ends d c m h
 does-all d c (Some leaf) m h = again d c (put d.map leaf) c.request.retries c.request.pushed
 
-does-asking : {l : Letter} (d : Desk) (c : OpenCall) (from : NodeNo) (waiting : List NodeNo) (newest next : Option Leaf) (m : Met) → c.phase ≡ phase.Asking waiting newest m → CallDoes d c from l (told_on d c (without waiting from) next m)
+does-asking : {l : Letter} (d : Desk) (c : OpenCall) (from : NodeNo) (waiting : List NodeNo) (newest next : Option Leaf) (m : Met)
+    → c.phase ≡ phase.Asking waiting newest m → CallDoes d c from l (told_on d c (without waiting from) next m)
 does-asking d c from waiting newest next m e =
     if-does (is_none_left (without waiting from)) _ _ (λ f. does-all d c next m (kept waiting newest e)) (λ f. waits_told waiting newest next m e f)
 
-does-told : {l : Letter} (d : Desk) (c : OpenCall) (from : NodeNo) (leaf : Option Leaf) (p : Phase) → c.phase ≡ p → CallDoes d c from l (told_in d c from leaf p)
+does-told : {l : Letter} (d : Desk) (c : OpenCall) (from : NodeNo) (leaf : Option Leaf) (p : Phase) → c.phase ≡ p
+    → CallDoes d c from l (told_in d c from leaf p)
 does-told d c from leaf (phase.Asking waiting newest m) e = does-asking d c from waiting newest (newest_of leaf newest) m e
 does-told d c from leaf other e = idles
 
-does-lost : (d : Desk) (c : OpenCall) (from : NodeNo) (leaf : Leaf) (list waiting : List NodeNo) (was : Option Bool) → c.phase ≡ phase.Committing leaf list waiting was → is_none_left (without waiting from) ≡ true → CallDoes d c from letter.Notice (lost_or_applied d c leaf was)
+does-lost : (d : Desk) (c : OpenCall) (from : NodeNo) (leaf : Leaf) (list waiting : List NodeNo) (was : Option Bool)
+    → c.phase ≡ phase.Committing leaf list waiting was → is_none_left (without waiting from) ≡ true
+    → CallDoes d c from letter.Notice (lost_or_applied d c leaf was)
 does-lost d c from leaf list waiting None e f = loses leaf list waiting e refl f
 does-lost d c from leaf list waiting (Some was) e f = done leaf list waiting (Some was) was e f
 
-does-without : (d : Desk) (c : OpenCall) (from : NodeNo) (p : Phase) → c.phase ≡ p → call_concerns p from ≡ true → CallDoes d c from letter.Notice (goes_without d c from p)
+does-without : (d : Desk) (c : OpenCall) (from : NodeNo) (p : Phase) → c.phase ≡ p → call_concerns p from ≡ true
+    → CallDoes d c from letter.Notice (goes_without d c from p)
 does-without d c from (phase.Getting leaf brick) e h = again d c d.map c.request.retries c.request.pushed
 does-without d c from (phase.Preparing leaf list waiting) e h =
     if-does (list_all (λ n. has_node d.known n) list) _ _

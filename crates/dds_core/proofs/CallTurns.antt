@@ -1,4 +1,4 @@
-use Rattle.std.proofs.Common.{◌≡◌, ℕ, zero, suc, ◌==◌, ◌&&◌, true, Option, Some, None, List, [], ◌∷◌, refl, sym, ap, ◌∙◌, subst, append_assoc}
+use Rattle.std.proofs.Common.{◌≡◌, ℕ, zero, suc, ◌==◌, true, Option, Some, None, List, [], ◌∷◌, refl, sym, ap, ◌∙◌, subst, append_assoc}
 use Rattle.std.proofs.lemmas.Bool.{and_parts, eqb-true}
 use Rattle.std.proofs.lemmas.List.{append-nil}
 use Rattle.std.proofs.lemmas.List.Quantifiers.{position-Some}
@@ -28,14 +28,20 @@ pub data Concerns (l : Letter) (c : OpenCall) : Type 0 where
 -- a fact of a library and of what it has given so far that the turn of one call keeps
 abbrev pub OneKeeps : (LibraryState → CoreTurn → Type 0) → NodeNo → Letter → Type 0
 OneKeeps F from l =
-    (s : LibraryState) (out : CoreTurn) (place : ℕ) (c : OpenCall) → slice_get s.calls place ≡ Some c → Concerns l c → F s out → F (one_call s from l place c).state (both out (one_call s from l place c).out)
+    (s : LibraryState) (out : CoreTurn) (place : ℕ) (c : OpenCall) → slice_get s.calls place ≡ Some c → Concerns l c → F s out
+    → F (one_call s from l place c).state (both out (one_call s from l place c).out)
 
 pub both-nothing : (a : CoreTurn) → both a no_out ≡ a
 both-nothing a = λ i. record { letters = append-nil a.letters i; points = append-nil a.points i; replies = append-nil a.replies i }
 
 pub both-assoc : (a b c : CoreTurn) → both (both a b) c ≡ both a (both b c)
 both-assoc a b c =
-    λ i. record { letters = append_assoc a.letters b.letters c.letters i; points = append_assoc a.points b.points c.points i; replies = append_assoc a.replies b.replies c.replies i }
+    λ i. record {
+      letters = append_assoc a.letters b.letters c.letters i;
+      points = append_assoc a.points b.points c.points i;
+      replies = append_assoc a.replies
+          b.replies c.replies i;
+    }
 
 the_txn : ℕ → ℕ → Txn
 the_txn library number = record { library = library; number = number }
@@ -51,22 +57,29 @@ get-is [] i x d e = cc
 get-is (y ∷ xs) zero x d e = cc
 get-is (y ∷ xs) (suc i) x d e = get-is xs i x d e
 
-at-call : (F : LibraryState → CoreTurn → Type 0) (s : LibraryState) (out : CoreTurn) (from : NodeNo) (l : Letter) (place : ℕ) (o : Option OpenCall) → OneKeeps F from l → slice_get s.calls place ≡ o → ((c : OpenCall) → o ≡ Some c → Concerns l c) → F s out → F (at_call s from l place o).state (both out (at_call s from l place o).out)
+at-call : (F : LibraryState → CoreTurn → Type 0) (s : LibraryState) (out : CoreTurn) (from : NodeNo) (l : Letter) (place : ℕ) (o : Option OpenCall)
+    → OneKeeps F from l → slice_get s.calls place ≡ o → ((c : OpenCall) → o ≡ Some c → Concerns l c) → F s out
+    → F (at_call s from l place o).state (both out (at_call s from l place o).out)
 at-call F s out from l place None k e w h = subst (F s) (sym (both-nothing out)) h
 at-call F s out from l place (Some c) k e w h = k s out place c e (w c refl) h
 
-at-place : (F : LibraryState → CoreTurn → Type 0) (s : LibraryState) (out : CoreTurn) (from : NodeNo) (l : Letter) (txn : Txn) (o : Option ℕ) → OneKeeps F from l → call_place s.calls txn ≡ o → ((c : OpenCall) → c.txn ≡ txn → Concerns l c) → F s out → F (at_place s from l o).state (both out (at_place s from l o).out)
+at-place : (F : LibraryState → CoreTurn → Type 0) (s : LibraryState) (out : CoreTurn) (from : NodeNo) (l : Letter) (txn : Txn) (o : Option ℕ)
+    → OneKeeps F from l → call_place s.calls txn ≡ o → ((c : OpenCall) → c.txn ≡ txn → Concerns l c) → F s out
+    → F (at_place s from l o).state (both out (at_place s from l o).out)
 at-place F s out from l txn None k e w h = subst (F s) (sym (both-nothing out)) h
 at-place F s out from l txn (Some place) k e w h =
     at-call F s out from l place (slice_get s.calls place) k refl
-    (λ c is. w c (same-is c.txn txn (ap (λ (x : OpenCall). same_txn x.txn txn) (sym (get-is s.calls place c c is)) ∙ (position-Some (λ (x : OpenCall). same_txn x.txn txn) s.calls place c e).1)))
+    (λ c is. w c (same-is c.txn txn (ap (λ (x : OpenCall). same_txn x.txn txn) (sym (get-is s.calls place c c is))
+    ∙ (position-Some (λ (x : OpenCall). same_txn x.txn txn) s.calls place c e).1)))
     h
 
-at-attempt : (F : LibraryState → CoreTurn → Type 0) (s : LibraryState) (out : CoreTurn) (from : NodeNo) (l : Letter) (o : Option Txn) → OneKeeps F from l → ((c : OpenCall) → o ≡ Some c.txn → Concerns l c) → F s out → F (at_attempt s from l o).state (both out (at_attempt s from l o).out)
+at-attempt : (F : LibraryState → CoreTurn → Type 0) (s : LibraryState) (out : CoreTurn) (from : NodeNo) (l : Letter) (o : Option Txn) → OneKeeps F from l
+    → ((c : OpenCall) → o ≡ Some c.txn → Concerns l c) → F s out → F (at_attempt s from l o).state (both out (at_attempt s from l o).out)
 at-attempt F s out from l None k w h = subst (F s) (sym (both-nothing out)) h
 at-attempt F s out from l (Some txn) k w h = at-place F s out from l txn (call_place s.calls txn) k refl (λ c e. w c (ap Some (sym e))) h
 
-notice-calls : (F : LibraryState → CoreTurn → Type 0) (s : LibraryState) (out : CoreTurn) (y : NodeNo) (txns : List Txn) → OneKeeps F y letter.Notice → F s out → F (notice_calls s y txns).state (both out (notice_calls s y txns).out)
+notice-calls : (F : LibraryState → CoreTurn → Type 0) (s : LibraryState) (out : CoreTurn) (y : NodeNo) (txns : List Txn) → OneKeeps F y letter.Notice → F s out
+    → F (notice_calls s y txns).state (both out (notice_calls s y txns).out)
 notice-calls F s out y [] k h = subst (F s) (sym (both-nothing out)) h
 notice-calls F s out y (txn ∷ txns) k h =
     let t = at_attempt s y letter.Notice (Some txn) in
@@ -79,6 +92,7 @@ abbrev pub heard : LibraryState → NodeNo → Letter → LibraryState
 heard s from letter.Notice = learns s from
 heard s from other = s
 
-pub library-keeps : (F : LibraryState → CoreTurn → Type 0) (s : LibraryState) (from : NodeNo) (l : Letter) → OneKeeps F from l → F (heard s from l) no_out → F (live_library_turn s from l).state (live_library_turn s from l).out
+pub library-keeps : (F : LibraryState → CoreTurn → Type 0) (s : LibraryState) (from : NodeNo) (l : Letter) → OneKeeps F from l → F (heard s from l) no_out
+    → F (live_library_turn s from l).state (live_library_turn s from l).out
 library-keeps F s from letter.Notice k h = notice-calls F (learns s from) no_out from (attempts s.calls) k h
 library-keeps F s from other k h = at-attempt F s no_out from other (attempt_of other) k (λ c e. its_attempt e) h

@@ -1,6 +1,5 @@
-use Rattle.std.proofs.Common.{◌≡◌, ℕ, Bool, true, false, Option, Some, None, List, [], ◌∷◌, ◌++◌, refl}
+use Rattle.std.proofs.Common.{◌≡◌, ℕ, Option, Some, None, List, [], ◌∷◌, refl}
 use Rattle.std.specs.FinMap.{get}
-use Rattle.std.specs.Prelude.{if◌then◌else◌}
 use Rattle.dds_base.specs.Name.{Name}
 use Rattle.dds_base.specs.Number.{Txn, StampOf}
 use Rattle.dds_base.specs.declared.leaf.Leaf.{Leaf}
@@ -17,7 +16,6 @@ use Rattle.dds_core.specs.Brick.{live_brick_turn}
 use Rattle.dds_core.specs.Notice as notices
 use Rattle.dds_letters.specs.declared.letter.Letter.{Letter}
 use Rattle.dds_letters.specs.declared.letter.Letter.TheVariants as letter
-use Rattle.dds_letters.specs.declared.refusal.Answer.{Answer}
 use Rattle.dds_letters.specs.declared.refusal.Answer.TheVariants as answer
 use Rattle.dds_letters.specs.declared.refusal.Ballot.TheVariants as ballot
 use Rattle.dds_letters.specs.declared.refusal.Denial.{Denial}

@@ -1,6 +1,7 @@
 pub mod Lists
 pub mod CallDoes
 pub mod CallTurns
+pub mod CallAttempts
 pub mod LibraryAttempts
 pub mod Tells
 pub mod BrickTells

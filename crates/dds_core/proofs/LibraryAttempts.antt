@@ -1,159 +1,29 @@
-use Rattle.std.proofs.Common.{◌≡◌, ℕ, ◌+◌, ◌<◌, ◌≤◌, ◌⊎◌, inl, inr, Option, Some, None, List, [], ◌∷◌, ◌++◌, refl, sym, ap, ◌∙◌, subst, arith}
+use Rattle.std.proofs.Common.{◌≡◌, ℕ, ◌+◌, ◌<◌, ◌≤◌, inl, inr, Option, Some, None, List, [], ◌∷◌, ◌++◌, refl, sym, ap, ◌∙◌, subst, arith}
 use Rattle.std.specs.List.{AllByRecursion, remove}
-use Rattle.std.specs.Prelude.{option_to_list, slice_get}
+use Rattle.std.specs.Prelude.{option_to_list}
 use Rattle.dds_base.specs.Number.{Txn}
-use Rattle.dds_base.specs.Op.{the_key}
 use Rattle.dds_base.specs.declared.number.CallNo.{CallNo}
 use Rattle.dds_base.specs.declared.number.NodeNo.{NodeNo}
-use Rattle.dds_base.specs.declared.op.Met.{Met}
 use Rattle.dds_base.specs.declared.op.Op.{Op}
 use Rattle.dds_base.specs.declared.op.Reply.{Reply}
-use Rattle.dds_call_rows.specs.Library as rows
 use Rattle.dds_call_rows.specs.Library.{CallTurn, begin}
 use Rattle.dds_core.specs.LibraryTurn.{call_row, desk_of, input_turn, live_library_turn, new_request, put_back, replies_of}
 use Rattle.dds_letters.specs.declared.letter.Letter.{Letter}
 use Rattle.dds_letters.specs.declared.letter.Letter.TheVariants as letter
-use Rattle.dds_states.specs.Turn.{LibraryTurn, both, no_out, to_each, unknown, without}
+use Rattle.dds_states.specs.Turn.{both, no_out}
 use Rattle.dds_states.specs.declared.library_state.Desk.{Desk}
 use Rattle.dds_states.specs.declared.library_state.LibraryState.{LibraryState}
 use Rattle.dds_states.specs.declared.library_state.OpenCall.{OpenCall}
-use Rattle.dds_states.specs.declared.library_state.Phase.{Phase}
-use Rattle.dds_states.specs.declared.library_state.Phase.TheVariants as phase
-use Rattle.dds_states.specs.declared.library_state.Request.{Request}
 use Rattle.dds_states.specs.declared.library_state.TxnNumbers.{TxnNumbers}
 use Rattle.dds_states.specs.declared.turn.CoreTurn.{CoreTurn}
 use Rattle.dds_states.specs.declared.turn.Replied.{Replied}
 use Rattle.dds_states.specs.declared.turn.Replied.TheVariants as replied
-use Rattle.dds_core.proofs.CallDoes.{ArePushes, Begins, CallDoes, IsStop, aborts, applies, call-does, commits, gets, idles, looks, new-begins, prepares, tries}
-use Rattle.dds_core.proofs.CallDoes.{votes, waits_aborted, waits_told}
+use Rattle.dds_core.proofs.CallDoes.{Begins, CallDoes, IsStop, call-does, new-begins}
 use Rattle.dds_core.proofs.CallTurns.{Concerns, OneKeeps, heard, library-keeps}
-use Rattle.dds_core.proofs.Lists.{all-append, all-is, all-map, all-put, all-taken, this-one}
+use Rattle.dds_core.proofs.Lists.{all-append, all-is, all-map, all-put, all-taken}
+use Rattle.dds_core.proofs.CallAttempts.{AllFrom, Begun, Goes, Stays, all-from, begun, does}
 
 -- Whose the attempts of a library's open calls are, and whose those of the letters that it sends.
-
--- what is said of each attempt that a letter of a library begins; it sends no answer, vote, refusal of a lease or notice
-abbrev pub FromLibrary : (Txn → ℕ → CallNo → Type 0) → Letter → Type 0
-FromLibrary B (letter.Get txn caller call key name stamp) = B txn caller call
-FromLibrary B (letter.Prepare txn caller call below name stamp list op) = B txn caller call
-FromLibrary B (letter.Got txn a) = ⊥
-FromLibrary B (letter.Vote txn vote) = ⊥
-FromLibrary B (letter.LeaseRefused number why) = ⊥
-FromLibrary B letter.Notice = ⊥
-FromLibrary B other = Unit {0}
-
-abbrev pub AllFrom : (Txn → ℕ → CallNo → Type 0) → List (NodeNo × Letter) → Type 0
-AllFrom B ls = AllByRecursion (λ (p : NodeNo × Letter). FromLibrary B p.1) ls
-
-from-map : (B C : Txn → ℕ → CallNo → Type 0) (l : Letter) → ((txn : Txn) (caller : ℕ) (call : CallNo) → B txn caller call → C txn caller call) → FromLibrary B l → FromLibrary C l
-from-map B C (letter.Get txn caller call key name stamp) f h = f txn caller call h
-from-map B C (letter.Prepare txn caller call below name stamp list op) f h = f txn caller call h
-from-map B C (letter.Got txn a) f h = h
-from-map B C (letter.Vote txn vote) f h = h
-from-map B C (letter.LeaseRefused number why) f h = h
-from-map B C letter.Notice f h = h
-from-map B C other f h = tt
-
-all-from : (B C : Txn → ℕ → CallNo → Type 0) (ls : List (NodeNo × Letter)) → ((txn : Txn) (caller : ℕ) (call : CallNo) → B txn caller call → C txn caller call) → AllFrom B ls → AllFrom C ls
-all-from B C ls f h = all-map (λ (p : NodeNo × Letter). FromLibrary B p.1) (λ p. FromLibrary C p.1) ls (λ p k. from-map B C p.1 f k) h
-
--- One call's turn
-
--- the attempt takes one of the numbers between
-pub record IsFresh (n : TxnNumbers) (next : ℕ) (txn : Txn) : Type 0 where
-  pub library : txn.library ≡ n.library
-  pub from : n.next ≤ txn.number
-  pub below : txn.number < next
-
-abbrev Begun : TxnNumbers → ℕ → ℕ → CallNo → Txn → ℕ → CallNo → Type 0
-Begun n next caller call txn a b = IsFresh n next txn × (a ≡ caller) × (b ≡ call)
-
--- the call stays open with its attempt, or a new one
-pub record Stays (n : TxnNumbers) (next caller : ℕ) (call : CallNo) (old : Option Txn) (x : OpenCall) : Type 0 where
-  pub caller_is : x.request.caller ≡ caller
-  pub call_is : x.request.call ≡ call
-  pub attempt : (old ≡ Some x.txn) ⊎ IsFresh n next x.txn
-
-pub record Goes (n : TxnNumbers) (caller : ℕ) (call : CallNo) (old : Option Txn) (t : CallTurn) : Type 0 where
-  pub library : t.desk.numbers.library ≡ n.library
-  pub next : n.next ≤ t.desk.numbers.next
-  pub letters : AllFrom (Begun n t.desk.numbers.next caller call) t.went.letters
-  pub stays : (x : OpenCall) → t.went.call ≡ Some x → Stays n t.desk.numbers.next caller call old x
-
-each : (B : Txn → ℕ → CallNo → Type 0) (ns : List NodeNo) (l : Letter) → FromLibrary B l → AllFrom B (to_each ns l)
-each B [] l h = tt
-each B (n ∷ ns) l h = (h, each B ns l h)
-
--- an attempt begins
-fresh : (d : Desk) → IsFresh d.numbers (rows.counted d).numbers.next (rows.next_txn d)
-fresh d = record { library = refl; from = omega arith; below = omega arith }
-
-new-call : {old : Option Txn} (d : Desk) (r s : Request) (p : Phase) (ls : List (NodeNo × Letter)) → s.caller ≡ r.caller → s.call ≡ r.call → AllFrom (Begun d.numbers (d.numbers.next + 1) r.caller r.call) ls → Goes d.numbers r.caller r.call old (rows.stays (rows.counted d) ls (record { request = s; txn = rows.next_txn d; phase = p }))
-new-call {old = old} d r s p ls e f h =
-    let c : OpenCall = record { request = s; txn = rows.next_txn d; phase = p } in
-    record {
-      library = refl;
-      next = omega arith;
-      letters = h;
-      stays = λ x is. this-one (Stays d.numbers (d.numbers.next + 1) r.caller r.call old) c x is (record { caller_is = e; call_is = f; attempt = inr (fresh d) });
-    }
-
-begun : {M : Met → Type 0} {old : Option Txn} (d : Desk) (r : Request) (t : CallTurn) → Begins M d r t → Goes d.numbers r.caller r.call old t
-begun d r _ (gets leaf m ms key e f g) = new-call d r r (phase.Getting leaf (rows.got_from (m ∷ ms) r)) _ refl refl ((fresh d, refl, refl), tt)
-begun d r _ (prepares leaf m ms e f g) =
-    let l = letter.Prepare (rows.next_txn d) r.caller r.call (rows.below d) leaf.name leaf.stamp (m ∷ ms) r.op in
-    new-call d r r (phase.Preparing leaf (m ∷ ms) (m ∷ ms)) _ refl refl (each _ (m ∷ ms) l (fresh d, refl, refl))
-begun d r _ (looks m n ns e h) =
-    let l = letter.MapAsk (rows.next_txn d) r.caller r.call (the_key r.op) in
-    new-call d r (rows.retried r) (phase.Asking (n ∷ ns) None m) _ refl refl (each _ (n ∷ ns) l tt)
-begun d r _ other = record { library = refl; next = omega arith; letters = tt; stays = λ x is. cc }
-
--- the open call goes on with its attempt, or is answered
-abbrev Going : Desk → OpenCall → CallTurn → Type 0
-Going d c t = Goes d.numbers c.request.caller c.request.call (Some c.txn) t
-
-goes-on : (d : Desk) (c : OpenCall) (p : Phase) (ls : List (NodeNo × Letter)) → AllFrom (Begun d.numbers d.numbers.next c.request.caller c.request.call) ls → Going d c (rows.stays d ls (record c { phase = p }))
-goes-on d c p ls h =
-    let y = record c { phase = p } in
-    record {
-      library = refl;
-      next = omega arith;
-      letters = h;
-      stays = λ x is. this-one (Stays d.numbers d.numbers.next c.request.caller c.request.call (Some c.txn)) y x is (record { caller_is = refl; call_is = refl; attempt = inl refl });
-    }
-
-idle : (d : Desk) (c : OpenCall) → Going d c (rows.stays d [] c)
-idle d c =
-    record {
-      library = refl;
-      next = omega arith;
-      letters = tt;
-      stays = λ x is. this-one (Stays d.numbers d.numbers.next c.request.caller c.request.call (Some c.txn)) c x is (record { caller_is = refl; call_is = refl; attempt = inl refl });
-    }
-
-answers : (d : Desk) (c : OpenCall) (r : Reply) → Going d c (rows.replies d r)
-answers d c r = record { library = refl; next = omega arith; letters = tt; stays = λ x is. cc }
-
-pushes : (B : Txn → ℕ → CallNo → Type 0) (ls : List (NodeNo × Letter)) → ArePushes ls → AllFrom B ls
-pushes B [] h = tt
-pushes B ((to, letter.Push leaf) ∷ ls) h = (tt, pushes B ls h)
-pushes B (other ∷ ls) h = absurd h
-
-does : (d : Desk) (c : OpenCall) (from : NodeNo) (l : Letter) (t : CallTurn) → CallDoes d c from l t → Going d c t
-does d c from l _ (tries map retries pushed ls t h b) =
-    let g = begun (record d { map = map }) (record c.request { retries = retries; pushed = pushed }) t b in
-    record { library = g.library; next = g.next; letters = all-append _ ls t.went.letters (pushes _ ls h) g.letters; stays = g.stays }
-does d c from l _ (commits leaf list waiting e f g) =
-    goes-on d c (phase.Committing leaf list (unknown list d.known) None) _ (each _ (unknown list d.known) (letter.Commit c.txn) tt)
-does d c from l _ (aborts leaf list waiting txn why e f g) =
-    goes-on d c (phase.Aborting (unknown list d.known) why from) _ (each _ (unknown list d.known) (letter.Abort c.txn) tt)
-does d c from l _ idles = idle d c
-does d c from l _ (votes leaf list waiting e f g) = goes-on d c (phase.Preparing leaf list (without waiting from)) [] tt
-does d c from l _ (applies leaf list waiting was next e f) = goes-on d c (phase.Committing leaf list (without waiting from) next) [] tt
-does d c from l _ (waits_aborted waiting why brick e f) = goes-on d c (phase.Aborting (without waiting from) why brick) [] tt
-does d c from l _ (waits_told waiting newest next m e f) = goes-on d c (phase.Asking (without waiting from) next m) [] tt
-does d c from l _ other = answers d c _
-
--- The library
 
 -- an open call has an attempt of the library that is no longer to come, and K holds of it
 pub record IsOpen (K : OpenCall → Type 0) (number next : ℕ) (c : OpenCall) : Type 0 where
@@ -188,13 +58,15 @@ pub record Attempts (K : OpenCall → Type 0) (old s : LibraryState) (out : Core
   pub letters : AllFrom (IsSent s) out.letters
   pub replies : AllByRecursion IsCallReply out.replies
 
-attempts-then : {K : OpenCall → Type 0} (old s u : LibraryState) (out more : CoreTurn) → Attempts K old s out → Attempts K s u more → Attempts K old u (both out more)
+attempts-then : {K : OpenCall → Type 0} (old s u : LibraryState) (out more : CoreTurn) → Attempts K old s out → Attempts K s u more
+    → Attempts K old u (both out more)
 attempts-then old s u out more h k =
     record {
       number = k.number ∙ h.number;
       calls = k.calls;
       ties = λ txn a b tie. k.ties txn a b (h.ties txn a b tie);
-      letters = all-append _ out.letters more.letters (all-from (IsSent s) (IsSent u) out.letters (λ txn a b t. (t.0 ∙ sym k.number, k.ties txn a b t.1)) h.letters) k.letters;
+      letters = all-append _ out.letters more.letters (all-from (IsSent s) (IsSent u) out.letters
+          (λ txn a b t. (t.0 ∙ sym k.number, k.ties txn a b t.1)) h.letters) k.letters;
       replies = all-append IsCallReply out.replies more.replies h.replies k.replies;
     }
 
@@ -217,13 +89,17 @@ end-with : (rest : List OpenCall) (o : Option OpenCall) → IsWith (rest ++ opti
 end-with rest None = record { holds = λ P h f. all-append P rest [] h tt }
 end-with rest (Some x) = record { holds = λ P h f. all-append P rest (x ∷ []) h (f x refl, tt) }
 
-still-open : {K : OpenCall → Type 0} {n : TxnNumbers} {old : Option Txn} (s : LibraryState) (rest : List OpenCall) (next caller : ℕ) (call : CallNo) (x : OpenCall) → n.library ≡ s.number → n.next ≡ s.next → n.next ≤ next → Beside K s rest caller call old → Stays n next caller call old x → K x → IsOpen K s.number next x
+still-open : {K : OpenCall → Type 0} {n : TxnNumbers} {old : Option Txn} (s : LibraryState) (rest : List OpenCall) (next caller : ℕ) (call : CallNo)
+    (x : OpenCall) → n.library ≡ s.number → n.next ≡ s.next → n.next ≤ next → Beside K s rest caller call old → Stays n next caller call old x → K x
+    → IsOpen K s.number next x
 still-open s rest next caller call x lib from more b st k = elim st.attempt [
   | inl e ↦ let o = b.own x.txn e in let low = o.1 in record { library = o.0; below = omega (arith, low, from, more); kept = k }
   | inr f ↦ record { library = f.library ∙ lib; below = f.below; kept = k }
 ]
 
-still-of : {K : OpenCall → Type 0} {n : TxnNumbers} {old : Option Txn} (s : LibraryState) (rest : List OpenCall) (next caller : ℕ) (call : CallNo) (x : OpenCall) (txn : Txn) (a : ℕ) (b : CallNo) → n.next ≡ s.next → Beside K s rest caller call old → Stays n next caller call old x → Tied s txn a b → IsOf txn.number a b x
+still-of : {K : OpenCall → Type 0} {n : TxnNumbers} {old : Option Txn} (s : LibraryState) (rest : List OpenCall) (next caller : ℕ) (call : CallNo)
+    (x : OpenCall) (txn : Txn) (a : ℕ) (b : CallNo) → n.next ≡ s.next → Beside K s rest caller call old → Stays n next caller call old x → Tied s txn a b
+    → IsOf txn.number a b x
 still-of s rest next caller call x txn a b from beside st tie e = elim st.attempt [
   | inl same ↦ let o = beside.mine txn x.txn a b tie same e in (st.caller_is ∙ o.0, st.call_is ∙ o.1)
   | inr f ↦ let low = tie.below in let high = f.from in absurd (omega (arith, low, high, from, e))
@@ -234,21 +110,38 @@ call-replies caller call txn None = tt
 call-replies caller call txn (Some reply) = (tt, tt)
 
 -- a call has had its turn
-turned : {K : OpenCall → Type 0} {n : TxnNumbers} {old : Option Txn} (s u : LibraryState) (rest : List OpenCall) (caller : ℕ) (call : CallNo) (txn : Txn) (t : CallTurn) → n.library ≡ s.number → n.next ≡ s.next → u.number ≡ s.number → u.next ≡ t.desk.numbers.next → Beside K s rest caller call old → Goes n caller call old t → IsWith u.calls rest t.went.call → ((x : OpenCall) → t.went.call ≡ Some x → K x) → Attempts K s u (record { letters = t.went.letters; points = []; replies = replies_of caller call txn t.went.reply })
+turned : {K : OpenCall → Type 0} {n : TxnNumbers} {old : Option Txn} (s u : LibraryState) (rest : List OpenCall) (caller : ℕ) (call : CallNo) (txn : Txn)
+    (t : CallTurn) → n.library ≡ s.number → n.next ≡ s.next → u.number ≡ s.number → u.next ≡ t.desk.numbers.next → Beside K s rest caller call old
+    → Goes n caller call old t → IsWith u.calls rest t.went.call → ((x : OpenCall) → t.went.call ≡ Some x → K x)
+    → Attempts K s u (record { letters = t.went.letters; points = []; replies = replies_of caller call txn t.went.reply })
 turned {K = K} {n = n} {old = old} s u rest caller call txn t lib from number next b g w kept =
     let later = t.desk.numbers.next in
     let more = g.next in
     record {
       number = number;
-      calls = subst (λ i. AllByRecursion (IsOpen K i u.next) u.calls) (sym number) (subst (λ i. AllByRecursion (IsOpen K s.number i) u.calls) (sym next) (w.holds (IsOpen K s.number later) (all-map _ _ rest (λ c o. let low = o.below in record { library = o.library; below = omega (arith, low, from, more); kept = o.kept }) b.others) (λ x e. still-open s rest later caller call x lib from more b (g.stays x e) (kept x e))));
+      calls = subst (λ i. AllByRecursion (IsOpen K i u.next) u.calls) (sym number)
+          (subst (λ i. AllByRecursion (IsOpen K s.number i) u.calls) (sym next) (w.holds (IsOpen K s.number later)
+          (all-map _ _ rest (λ c o. let low = o.below in record { library = o.library; below = omega (arith, low, from, more); kept = o.kept }) b.others)
+          (λ x e. still-open s rest later caller call x lib from more b (g.stays x e) (kept x e))));
       ties = λ k a c tie.
           let low = tie.below in
-          record { below = omega (arith, low, from, more, next); calls = w.holds (IsOf k.number a c) (b.ties k a c tie) (λ x e. still-of s rest later caller call x k a c from b (g.stays x e) tie) };
+          record {
+            below = omega (arith, low, from, more, next);
+            calls = w.holds (IsOf k.number a c) (b.ties k a c tie)
+                (λ x e. still-of s rest later caller call x k a c from b (g.stays x e) tie);
+          };
       letters = all-from (Begun n later caller call) (IsSent u) t.went.letters (λ k a c h.
           let f = h.0 in
           let low = f.below in
-          let high = f.from in
-          (f.library ∙ lib ∙ sym number, record { below = omega (arith, low, next); calls = w.holds (IsOf k.number a c) (all-map _ (IsOf k.number a c) rest (λ d o e. let old_one = o.below in absurd (omega (arith, old_one, high, from, e))) b.others) (λ x e is. let st = g.stays x e in (st.caller_is ∙ sym h.1, st.call_is ∙ sym h.2)) })) g.letters;
+          let high = f.from in (
+            f.library ∙ lib ∙ sym number,
+            record {
+              below = omega (arith, low, next);
+              calls = w.holds (IsOf k.number a c)
+                  (all-map _ (IsOf k.number a c) rest (λ d o e. let old_one = o.below in absurd (omega (arith, old_one, high, from, e))) b.others)
+                  (λ x e is. let st = g.stays x e in (st.caller_is ∙ sym h.1, st.call_is ∙ sym h.2));
+            },
+          )) g.letters;
       replies = call-replies caller call txn t.went.reply;
     }
 
@@ -274,10 +167,16 @@ one-keeps K old from l keeps s out place c is concerns h =
       others = all-taken _ s.calls place h.calls;
       own = λ txn e. let same : c.txn ≡ txn = cc in subst (λ (k : Txn). (k.library ≡ s.number) × (k.number < s.next)) same (own.library, own.below);
       ties = λ txn a b tie. all-taken _ s.calls place tie.calls;
-      mine = λ txn k a b tie e same. let it : c.txn ≡ k = cc in all-is (IsOf txn.number a b) s.calls place c tie.calls is (ap (λ (j : Txn). j.number) it ∙ same);
+      mine = λ txn k a b tie e same. let it : c.txn ≡ k = cc in all-is (IsOf txn.number a b) s.calls place c tie.calls is
+          (ap (λ (j : Txn). j.number) it ∙ same);
     } in
-    let held : IsHeld old c = record { library = own.library ∙ h.number; ties = λ txn a b tie. all-is (IsOf txn.number a b) s.calls place c (h.ties txn a b tie).calls is } in
-    attempts-then old s u out _ h (turned s u rest c.request.caller c.request.call c.txn t refl refl refl refl b (does d c from l t does_so) (back-with rest place t.went.call) (λ x e. keeps d c t x concerns held does_so own.kept e))
+    let held : IsHeld old c = record {
+      library = own.library ∙ h.number;
+      ties = λ txn a b tie. all-is (IsOf txn.number a b) s.calls place c
+          (h.ties txn a b tie).calls is;
+    } in
+    attempts-then old s u out _ h (turned s u rest c.request.caller c.request.call c.txn t refl refl refl refl b (does d c from l t does_so)
+    (back-with rest place t.went.call) (λ x e. keeps d c t x concerns held does_so own.kept e))
 
 heard-so : (K : OpenCall → Type 0) (s : LibraryState) (from : NodeNo) (l : Letter) → AreOpen K s → Attempts K s (heard s from l) no_out
 heard-so K s from letter.Notice h =
@@ -285,11 +184,15 @@ heard-so K s from letter.Notice h =
 heard-so K s from other h = record { number = refl; calls = h; ties = λ txn a b tie. tie; letters = tt; replies = tt }
 
 -- a letter at a live library
-pub library-attempts : (K : OpenCall → Type 0) (s : LibraryState) (from : NodeNo) (l : Letter) → CallsKeep K s from l → AreOpen K s → Attempts K s (live_library_turn s from l).state (live_library_turn s from l).out
+pub library-attempts : (K : OpenCall → Type 0) (s : LibraryState) (from : NodeNo) (l : Letter) → CallsKeep K s from l → AreOpen K s
+    → Attempts K s (live_library_turn s from l).state (live_library_turn s from l).out
 library-attempts K s from l keeps h = library-keeps (Attempts K s) s from l (one-keeps K s from l keeps) (heard-so K s from l h)
 
 -- a call at a live library
-pub input-attempts : (K : OpenCall → Type 0) (s : LibraryState) (caller : ℕ) (call : CallNo) (o : Op) → ((d : Desk) (t : CallTurn) (x : OpenCall) → Begins IsStop d (new_request caller call o) t → t.went.call ≡ Some x → K x) → AreOpen K s → Attempts K s (input_turn s (new_request caller call o) (begin (desk_of s s.calls) (new_request caller call o))).state (input_turn s (new_request caller call o) (begin (desk_of s s.calls) (new_request caller call o))).out
+pub input-attempts : (K : OpenCall → Type 0) (s : LibraryState) (caller : ℕ) (call : CallNo) (o : Op)
+    → ((d : Desk) (t : CallTurn) (x : OpenCall) → Begins IsStop d (new_request caller call o) t → t.went.call ≡ Some x → K x) → AreOpen K s
+    → Attempts K s (input_turn s (new_request caller call o) (begin (desk_of s s.calls) (new_request caller call o))).state
+    (input_turn s (new_request caller call o) (begin (desk_of s s.calls) (new_request caller call o))).out
 input-attempts K s caller call o keeps h =
     let r = new_request caller call o in
     let d = desk_of s s.calls in
@@ -300,4 +203,5 @@ input-attempts K s caller call o keeps h =
       ties = λ txn a b tie. tie.calls;
       mine = λ txn k a b tie e same. cc;
     } in
-    turned s _ s.calls caller call _ t refl refl refl refl b (begun d r t (new-begins d r)) (end-with s.calls t.went.call) (λ x e. keeps d t x (new-begins d r) e)
+    turned s _ s.calls caller call _ t refl refl refl refl b (begun d r t (new-begins d r)) (end-with s.calls t.went.call)
+    (λ x e. keeps d t x (new-begins d r) e)

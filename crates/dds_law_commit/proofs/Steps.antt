@@ -41,7 +41,7 @@ answering b letter points =
 pub handle-brick : (b b2 : BrickState) (l : LibraryState) (k n : ℕ) (letter letter2 : Letter) (points : List Point) (c : Caller) (qs : List Asked) (ms : List Made) (rs : List Told) → brick_turn b 64 letter ≡ answering b2 letter2 points → next (the_trace (to_brick true b l k letter) n c qs ms rs) (step.Handle 0 64) ≡ the_trace (to_library false b2 l (k + 1) letter2) (n + 1) c (qs ++ []) (ms ++ all_kept ms (points_made n letter points)) (rs ++ [])
 handle-brick b b2 l k n letter letter2 points c qs ms rs e =
     let t = the_trace (to_brick true b l k letter) n c qs ms rs in
-    ap (λ (u : BrickTurn). adds t (step.Handle 0 64) (brick_does (set_link (to_brick true b l k letter) 64 0 []) 0 u (points_made n b.locks.pending letter u.out.points))) e
+    ap (λ (u : BrickTurn). adds t (step.Handle 0 64) (brick_does (set_link (to_brick true b l k letter) 64 0 []) 0 u (points_made n letter u.out.points))) e
 
 -- a library's turn that sends the brick a letter, or answers the call
 pub handle-library : (b : BrickState) (l l2 : LibraryState) (k n : ℕ) (letter letter2 : Letter) (c : Caller) (qs : List Asked) (ms : List Made) (rs : List Told) → library_turn l 0 letter ≡ library_sends l2 ((0, letter2) ∷ []) → next (the_trace (to_library true b l k letter) n c qs ms rs) (step.Handle 64 0) ≡ the_trace (to_brick false b l2 (k + 1) letter2) (n + 1) c (qs ++ []) (ms ++ []) (rs ++ [])

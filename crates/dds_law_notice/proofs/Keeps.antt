@@ -2,7 +2,6 @@ use Rattle.std.proofs.Common.{◌≡◌, ℕ, ◌<◌, ◌≤◌, inl, inr, ◌=
 use Rattle.std.proofs.lemmas.Bool.{and_parts, both_ways, cases_eq, eq-eqb, ne_eqb}
 use Rattle.std.proofs.lemmas.List.{append-nil}
 use Rattle.std.specs.Prelude.{if◌then◌else◌}
-use Rattle.dds_base.specs.NodeSet.{has_node}
 use Rattle.dds_base.specs.declared.number.NodeNo.{NodeNo}
 use Rattle.dds_core.proofs.Tells.{NoNotices, is_notice}
 use Rattle.dds_letters.specs.declared.letter.Letter.{Letter}
@@ -12,7 +11,7 @@ use Rattle.dds_net.proofs.OneWay.{AllWays, Way, does-ways, stops-ways, takes-way
 use Rattle.dds_net.proofs.Places.{node-below}
 use Rattle.dds_net.proofs.Runs.{IsKept}
 use Rattle.dds_net.specs.Event.{nothing, unheard, unasked, brick_takes, brick_told, brick_stops, library_takes, library_asked, library_stops, IsDeaf, IsFirst}
-use Rattle.dds_net.specs.Event.{IsFront, does, notice_to, stops, takes}
+use Rattle.dds_net.specs.Event.{IsFront, does, stops, takes}
 use Rattle.dds_net.specs.Net.{Net, Node, nowhere, a_brick, a_library, Sizes, changed, gains, is_in, when_in}
 use Rattle.dds_law_notice.proofs.Link.{Link, Silent, known_after, link-deaf, link-front, link-more, link-stops, link-takes}
 use Rattle.dds_law_notice.proofs.Views.{Does, Takes, View, brick-does, brick-takes, knows, knows-other, knows-sender, learns, library-does, library-takes}
@@ -54,8 +53,8 @@ takes-links z n at from l x y ls here few took f g =
     let t = subst (λ w. Takes from l w y ls) (sym here) took in
     let v = view (n.node at) in
     let heard : (a : ℕ) (s : Bool) (c : List Letter) → Link v.stopped c s (knows (learns from l v) a) → Link (view y).stopped c s (knows (view y) a) =
-        (λ a s c k. subst (λ w. Link w.stopped c s (knows w a)) (sym t.after)
-        (subst (λ d. Link d c s (knows (learns from l v) a)) (sym (same-stopped from l v)) k)) in
+    (λ a s c k. subst (λ w. Link w.stopped c s (knows w a)) (sym t.after)
+    (subst (λ d. Link d c s (knows (learns from l v) a)) (sym (same-stopped from l v)) k)) in
     takes-ways (Linked z) z n at from l y ls f (record {
       stays = λ a s c ne k h. heard a _ c (subst (Link v.stopped c _) (sym (knows-other from a l v few ne)) (k h));
       hears = λ s c k h. heard from _ c

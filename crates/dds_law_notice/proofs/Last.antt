@@ -3,7 +3,6 @@ use Rattle.std.proofs.Common.{subst, arith}
 use Rattle.std.proofs.lemmas.Bool.{and_parts, both_ways, cases_Bool}
 use Rattle.std.specs.List.{AllByRecursion}
 use Rattle.std.specs.Prelude.{slice_get, take}
-use Rattle.dds_base.specs.declared.number.NodeNo.{NodeNo}
 use Rattle.dds_core.proofs.Tells.{is_notice}
 use Rattle.dds_letters.specs.declared.letter.Letter.{Letter}
 use Rattle.dds_letters.specs.declared.letter.Letter.TheVariants as letter
@@ -23,8 +22,8 @@ use Rattle.dds_cluster.proofs.Sizes.{IsSized, sized-start}
 use Rattle.dds_net.proofs.Nodes.{brick-in, brick-node, library-in, library-node}
 use Rattle.dds_net.proofs.Ways.{LinkIs, NodeIs, is_brick, is_library, is_nowhere, link-is, no_link, node-is, nothing-on, some_link, travels}
 use Rattle.dds_net.specs.Net.{Node, nowhere, Sizes, channel_at, is_in, letters_of, net, node_at, sizes_of}
-use Rattle.dds_law_notice.proofs.Keeps.{AreLinked, Linked, links-kept}
-use Rattle.dds_law_notice.proofs.Link.{Link, Silent, lives, over, told}
+use Rattle.dds_law_notice.proofs.Keeps.{AreLinked, links-kept}
+use Rattle.dds_law_notice.proofs.Link.{Link, Silent, head, lives, over, tail, told}
 use Rattle.dds_law_notice.proofs.Views.{View, knows, none-known, view}
 use Rattle.dds_law_notice.specs.Law.{NoticesAreLast}
 
@@ -95,14 +94,6 @@ silent-at : (ms : List Message) (at : ℕ) (m : Message) (more : List Message) �
 silent-at [] at m more e h n = cc
 silent-at (x ∷ ms) zero m more e h n = let is : x ≡ m = cc in both_ways (is_notice m.letter) (subst (λ (y : Message). is_notice y.letter ≡ false) is h.0) n
 silent-at (x ∷ ms) (suc at) m more e h n = silent-at ms at m more e h.1 n
-
-abbrev tail : List Letter → List Letter
-tail [] = []
-tail (l ∷ ls) = ls
-
-abbrev head : Letter → List Letter → Letter
-head d [] = d
-head d (l ∷ ls) = l
 
 nil-front : (ms more : List Message) → letters_of (ms ++ more) ≡ [] → ms ≡ []
 nil-front [] more e = refl

@@ -1,4 +1,4 @@
-use Rattle.std.proofs.Common.{◌≡◌, ℕ, ◌==◌, ◌&&◌, ◌||◌, Bool, true, false, not, List, [], ◌∷◌, ◌++◌, refl, sym, ap, ◌∙◌, subst}
+use Rattle.std.proofs.Common.{◌≡◌, ◌&&◌, ◌||◌, Bool, true, false, not, List, [], ◌∷◌, ◌++◌, refl, sym, ap, ◌∙◌, subst}
 use Rattle.std.proofs.lemmas.Bool.{or_right}
 use Rattle.std.proofs.lemmas.List.{append-nil}
 use Rattle.std.specs.List.{AllByRecursion}
@@ -28,11 +28,11 @@ pub data Link (deaf : Bool) (c : List Letter) : Bool → Bool → Type 0 where
   told : (front : List Letter) → c ≡ front ++ letter.Notice ∷ [] → Silent front → Link deaf c true false
   over : (known : Bool) → c ≡ [] → (known || deaf) ≡ true → Link deaf c true known
 
-abbrev tail : List Letter → List Letter
+abbrev pub tail : List Letter → List Letter
 tail [] = []
 tail (l ∷ ls) = ls
 
-abbrev head : Letter → List Letter → Letter
+abbrev pub head : Letter → List Letter → Letter
 head d [] = d
 head d (l ∷ ls) = l
 

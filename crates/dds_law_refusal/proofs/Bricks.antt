@@ -1,4 +1,4 @@
-use Rattle.std.proofs.Common.{◌≡◌, ℕ, ◌≤◌, inl, inr, ◌==◌, ◌&&◌, true, false, Some, List, [], ◌∷◌, length, refl, sym, ap, ◌∙◌, subst}
+use Rattle.std.proofs.Common.{◌≡◌, ℕ, ◌≤◌, inl, inr, ◌==◌, true, false, Some, List, [], ◌∷◌, length, refl, sym, ap, ◌∙◌, subst}
 use Rattle.std.proofs.lemmas.Bool.{and_parts, eqb-true}
 use Rattle.std.specs.List.{AllByRecursion}
 use Rattle.std.specs.Prelude.{nat_lt}
@@ -11,10 +11,9 @@ use Rattle.dds_base.specs.declared.op.OrderReply.TheVariants as answered
 use Rattle.dds_core.proofs.LetterTells.{MetAt, RefusesNothing, Says, denied, get_refused, grants, lease_refused}
 use Rattle.dds_core.proofs.Lists.{all-map}
 use Rattle.dds_core.proofs.OrderTells.{InputMet, lease_denial}
-use Rattle.dds_core.proofs.Tells.{AllSends, Gives, GivesOrder, Sends}
+use Rattle.dds_core.proofs.Tells.{AllSends, Gives, Sends}
 use Rattle.dds_letters.specs.declared.letter.Letter.{Letter}
 use Rattle.dds_letters.specs.declared.letter.Letter.TheVariants as letter
-use Rattle.dds_letters.specs.declared.refusal.Answer.{Answer}
 use Rattle.dds_letters.specs.declared.refusal.Answer.TheVariants as answer
 use Rattle.dds_letters.specs.declared.refusal.Ballot.TheVariants as ballot
 use Rattle.dds_letters.specs.declared.refusal.Wanted.{Wanted}
@@ -48,7 +47,8 @@ pub record TakesNow (o : OpeningOf) (journal : List Step) (x : Step) (u : Net) (
   pub live : s.stopped ≡ false
   pub says : LetterOk o (Grown journal x) u from n l
 
-abbrev took : (o : OpeningOf) (journal : List Step) (x : Step) (u : Net) (n from : NodeNo) (l m : Letter) (s : BrickState) → TakesNow o journal x u n from l s → l ≡ m → TookBefore o (Grown journal x) n m s
+abbrev took : (o : OpeningOf) (journal : List Step) (x : Step) (u : Net) (n from : NodeNo) (l m : Letter) (s : BrickState) → TakesNow o journal x u n from l s
+    → l ≡ m → TookBefore o (Grown journal x) n m s
 took o journal x u n from l m s t is =
     let f = subst (IsFirst (sizes_of o) (net_of o journal) n from) is t.first in
     record { at = length journal; handles = handles-now o journal x n from m s t.step t.possible f t.here t.live }
@@ -58,34 +58,40 @@ lease-is s (wanted.Name name) = refl
 lease-is s (wanted.Leaf leaf) = refl
 
 -- what it says in a letter to another node
-says-ok : (o : OpeningOf) (journal : List Step) (x : Step) (u : Net) (n from : NodeNo) (l : Letter) (s : BrickState) (to b : NodeNo) (sent : Letter) → TakesNow o journal x u n from l s → (to ≡ from → from ≡ b) → Says s from l to sent → (RefusesNothing sent → LetterOk o (Grown journal x) u n b sent) → LetterOk o (Grown journal x) u n b sent
+says-ok : (o : OpeningOf) (journal : List Step) (x : Step) (u : Net) (n from : NodeNo) (l : Letter) (s : BrickState) (to b : NodeNo) (sent : Letter)
+    → TakesNow o journal x u n from l s → (to ≡ from → from ≡ b) → Says s from l to sent → (RefusesNothing sent → LetterOk o (Grown journal x) u n b sent)
+    → LetterOk o (Grown journal x) u n b sent
 says-ok o journal x u n from l s to b sent t back (grants r) h = h r
 says-ok o journal x u n from l s to b sent t back (get_refused txn caller call key name stamp why is e true_then) h =
-    subst (LetterOk o (Grown journal x) u n b) (sym e)
-    (record {
-      caller = caller;
-      call = call;
-      key = key;
-      name = name;
-      stamp = stamp;
-      state = s;
-      took = took o journal x u n from l (letter.Get txn caller call key name stamp) s t is;
-      true_then = true_then;
-    }, subst (LetterOk o (Grown journal x) u from n) is t.says)
+    subst (LetterOk o (Grown journal x) u n b) (sym e) (
+      record {
+        caller = caller;
+        call = call;
+        key = key;
+        name = name;
+        stamp = stamp;
+        state = s;
+        took = took o journal x u n from l (letter.Get txn caller call key name stamp) s t is;
+        true_then = true_then;
+      },
+      subst (LetterOk o (Grown journal x) u from n) is t.says,
+    )
 says-ok o journal x u n from l s to b sent t back (denied txn caller call below name stamp list op why is e true_then) h =
-    subst (LetterOk o (Grown journal x) u n b) (sym e)
-    (record {
-      caller = caller;
-      call = call;
-      below = below;
-      name = name;
-      stamp = stamp;
-      list = list;
-      op = op;
-      state = s;
-      took = took o journal x u n from l (letter.Prepare txn caller call below name stamp list op) s t is;
-      true_then = true_then;
-    }, subst (LetterOk o (Grown journal x) u from n) is t.says)
+    subst (LetterOk o (Grown journal x) u n b) (sym e) (
+      record {
+        caller = caller;
+        call = call;
+        below = below;
+        name = name;
+        stamp = stamp;
+        list = list;
+        op = op;
+        state = s;
+        took = took o journal x u n from l (letter.Prepare txn caller call below name stamp list op) s t is;
+        true_then = true_then;
+      },
+      subst (LetterOk o (Grown journal x) u from n) is t.says,
+    )
 says-ok o journal x u n from l s to b sent t back (lease_refused number what why is e home true_then) h =
     subst (LetterOk o (Grown journal x) u n b) (sym e)
     (record {
@@ -96,46 +102,45 @@ says-ok o journal x u n from l s to b sent t back (lease_refused number what why
       true_then = sym (lease-is s what) ∙ true_then;
     })
 
--- letters that refuse nothing say nothing
-nothing-ok : (o : OpeningOf) (journal : List Step) (u : Net) (n b : NodeNo) (sent : Letter) → Sends (λ to l. RefusesNothing l) b sent → LetterOk o journal u n b sent
-nothing-ok o journal u n b (letter.Get txn caller call key name stamp) h = absurd h
-nothing-ok o journal u n b (letter.Prepare txn caller call below name stamp list op) h = absurd h
-nothing-ok o journal u n b (letter.Got txn (answer.Refused why)) h = absurd h
-nothing-ok o journal u n b (letter.Got txn other) h = tt
-nothing-ok o journal u n b (letter.Vote txn ballot.Yes) h = tt
-nothing-ok o journal u n b (letter.Vote txn (ballot.No why)) h = absurd h
-nothing-ok o journal u n b (letter.LeaseRefused number why) h = absurd h
-nothing-ok o journal u n b other h = tt
+-- a letter that refuses nothing says nothing
+abbrev pub NoRefusal : NodeNo → Letter → Type 0
+NoRefusal to l = RefusesNothing l
 
-sends-ok : (o : OpeningOf) (journal : List Step) (x : Step) (u : Net) (n from : NodeNo) (l : Letter) (s : BrickState) (to b : NodeNo) (sent : Letter) → TakesNow o journal x u n from l s → (to ≡ from → from ≡ b) → Sends (Says s from l) to sent → LetterOk o (Grown journal x) u n b sent
-sends-ok o journal x u n from l s to b (letter.Got txn a) t back h = says-ok o journal x u n from l s to b (letter.Got txn a) t back h (λ r. nothing-ok o (Grown journal x) u n b (letter.Got txn a) r)
-sends-ok o journal x u n from l s to b (letter.Vote txn vote) t back h = says-ok o journal x u n from l s to b (letter.Vote txn vote) t back h (λ r. nothing-ok o (Grown journal x) u n b (letter.Vote txn vote) r)
-sends-ok o journal x u n from l s to b (letter.LeaseRefused number why) t back h = says-ok o journal x u n from l s to b (letter.LeaseRefused number why) t back h (λ r. absurd r)
+nothing-ok : (o : OpeningOf) (journal : List Step) (u : Net) (n b to : NodeNo) (sent : Letter) → Sends NoRefusal to sent → LetterOk o journal u n b sent
+nothing-ok o journal u n b to (letter.Get txn caller call key name stamp) h = absurd h
+nothing-ok o journal u n b to (letter.Prepare txn caller call below name stamp list op) h = absurd h
+nothing-ok o journal u n b to (letter.Got txn (answer.Refused why)) h = absurd h
+nothing-ok o journal u n b to (letter.Got txn other) h = tt
+nothing-ok o journal u n b to (letter.Vote txn ballot.Yes) h = tt
+nothing-ok o journal u n b to (letter.Vote txn (ballot.No why)) h = absurd h
+nothing-ok o journal u n b to (letter.LeaseRefused number why) h = absurd h
+nothing-ok o journal u n b to other h = tt
+
+sends-ok : (o : OpeningOf) (journal : List Step) (x : Step) (u : Net) (n from : NodeNo) (l : Letter) (s : BrickState) (to b : NodeNo) (sent : Letter)
+    → TakesNow o journal x u n from l s → (to ≡ from → from ≡ b) → Sends (Says s from l) to sent → LetterOk o (Grown journal x) u n b sent
+sends-ok o journal x u n from l s to b (letter.Got txn a) t back h =
+    says-ok o journal x u n from l s to b (letter.Got txn a) t back h (λ r. nothing-ok o (Grown journal x) u n b to (letter.Got txn a) r)
+sends-ok o journal x u n from l s to b (letter.Vote txn vote) t back h =
+    says-ok o journal x u n from l s to b (letter.Vote txn vote) t back h (λ r. nothing-ok o (Grown journal x) u n b to (letter.Vote txn vote) r)
+sends-ok o journal x u n from l s to b (letter.LeaseRefused number why) t back h =
+    says-ok o journal x u n from l s to b (letter.LeaseRefused number why) t back h (λ r. absurd r)
 sends-ok o journal x u n from l s to b (letter.Get txn caller call key name stamp) t back h = absurd h
 sends-ok o journal x u n from l s to b (letter.Prepare txn caller call below name stamp list op) t back h = absurd h
 sends-ok o journal x u n from l s to b other t back h = tt
 
-pub turn-news : (o : OpeningOf) (journal : List Step) (x : Step) (u : Net) (n from : NodeNo) (l : Letter) (s : BrickState) (ls : List (NodeNo × Letter)) → TakesNow o journal x u n from l s → AllSends (Says s from l) ls → News (LetterOk o (Grown journal x) u) (sizes_of o) n ls
+pub turn-news : (o : OpeningOf) (journal : List Step) (x : Step) (u : Net) (n from : NodeNo) (l : Letter) (s : BrickState) (ls : List (NodeNo × Letter))
+    → TakesNow o journal x u n from l s → AllSends (Says s from l) ls → News (LetterOk o (Grown journal x) u) (sizes_of o) n ls
 turn-news o journal x u n from l s ls t h b inside =
     let z = sizes_of o in
     all-map (λ (p : NodeNo × Letter). Sends (Says s from l) p.0 p.1) (Lands (LetterOk o (Grown journal x) u) z n b) ls
-    (λ p k comes. sends-ok o journal x u n from l s p.0 b p.1 t (λ home. eqb-true from b (sym (lands-is z from b t.few t.first.sender inside) ∙ ap (λ i. lands z i b) (sym home) ∙ comes)) k) h
+    (λ p k comes. sends-ok o journal x u n from l s p.0 b p.1 t (λ home. eqb-true from b
+    (sym (lands-is z from b t.few t.first.sender inside) ∙ ap (λ i. lands z i b) (sym home) ∙ comes)) k) h
 
 -- a brick that is told an order refuses nothing in letters
-abbrev pub NoneSaid : NodeNo → Letter → Type 0
-NoneSaid to l = ⊥
-
-none-ok : (o : OpeningOf) (journal : List Step) (u : Net) (n b to : NodeNo) (sent : Letter) → Sends NoneSaid to sent → LetterOk o journal u n b sent
-none-ok o journal u n b to (letter.Get txn caller call key name stamp) h = absurd h
-none-ok o journal u n b to (letter.Prepare txn caller call below name stamp list op) h = absurd h
-none-ok o journal u n b to (letter.Got txn a) h = absurd h
-none-ok o journal u n b to (letter.Vote txn vote) h = absurd h
-none-ok o journal u n b to (letter.LeaseRefused number why) h = absurd h
-none-ok o journal u n b to other h = tt
-
-pub order-news : (o : OpeningOf) (journal : List Step) (u : Net) (z : Sizes) (n : NodeNo) (ls : List (NodeNo × Letter)) → AllSends NoneSaid ls → News (LetterOk o journal u) z n ls
+pub order-news : (o : OpeningOf) (journal : List Step) (u : Net) (z : Sizes) (n : NodeNo) (ls : List (NodeNo × Letter)) → AllSends NoRefusal ls
+    → News (LetterOk o journal u) z n ls
 order-news o journal u z n ls h b inside =
-    all-map (λ (p : NodeNo × Letter). Sends NoneSaid p.0 p.1) (Lands (LetterOk o journal u) z n b) ls (λ p k comes. none-ok o journal u n b p.0 p.1 k) h
+    all-map (λ (p : NodeNo × Letter). Sends NoRefusal p.0 p.1) (Lands (LetterOk o journal u) z n b) ls (λ p k comes. nothing-ok o journal u n b p.0 p.1 k) h
 
 -- What an order is answered
 
@@ -148,14 +153,16 @@ ReplyOk o journal at (replied.Order reply) = OrderOk o journal at reply
 ReplyOk o journal at other = Unit {0}
 
 -- each answer of a turn of which this is said
-replies-ok : (M : Met → Type 0) (o : OpeningOf) (journal : List Step) (at : ℕ) (rs : List Replied) → ((m : Met) → M m → OrderWasRefused o journal at m) → AllByRecursion (Gives M) rs → AllByRecursion (ReplyOk o journal at) rs
+replies-ok : (M : Met → Type 0) (o : OpeningOf) (journal : List Step) (at : ℕ) (rs : List Replied) → ((m : Met) → M m → OrderWasRefused o journal at m)
+    → AllByRecursion (Gives M) rs → AllByRecursion (ReplyOk o journal at) rs
 replies-ok M o journal at [] f h = tt
 replies-ok M o journal at (replied.Order (answered.Refused m) ∷ rs) f h = (f m h.0, replies-ok M o journal at rs f h.1)
 replies-ok M o journal at (replied.Order other ∷ rs) f h = (tt, replies-ok M o journal at rs f h.1)
 replies-ok M o journal at (other ∷ rs) f h = absurd h.0
 
 -- at a letter: a member refused the request of the open order
-member-refused : (o : OpeningOf) (journal : List Step) (x : Step) (u : Net) (n from : NodeNo) (l : Letter) (s : BrickState) (m : Met) → TakesNow o journal x u n from l s → MetAt s from l m → OrderWasRefused o (Grown journal x) (length journal) m
+member-refused : (o : OpeningOf) (journal : List Step) (x : Step) (u : Net) (n from : NodeNo) (l : Letter) (s : BrickState) (m : Met)
+    → TakesNow o journal x u n from l s → MetAt s from l m → OrderWasRefused o (Grown journal x) (length journal) m
 member-refused o journal x u n from l s m t k =
     let was = subst (LetterOk o (Grown journal x) u from n) k.is t.says in
     inl (record {
@@ -171,12 +178,15 @@ member-refused o journal x u n from l s m t k =
       met = k.met;
     })
 
-pub turn-replies : (o : OpeningOf) (journal : List Step) (x : Step) (u : Net) (n from : NodeNo) (l : Letter) (s : BrickState) (rs : List Replied) → TakesNow o journal x u n from l s → AllByRecursion (Gives (MetAt s from l)) rs → AllByRecursion (ReplyOk o (Grown journal x) (length journal)) rs
+pub turn-replies : (o : OpeningOf) (journal : List Step) (x : Step) (u : Net) (n from : NodeNo) (l : Letter) (s : BrickState) (rs : List Replied)
+    → TakesNow o journal x u n from l s → AllByRecursion (Gives (MetAt s from l)) rs → AllByRecursion (ReplyOk o (Grown journal x) (length journal)) rs
 turn-replies o journal x u n from l s rs t h =
     replies-ok (MetAt s from l) o (Grown journal x) (length journal) rs (λ m k. member-refused o journal x u n from l s m t k) h
 
 -- at its input: a split met something at its own brick
-input-met : (o : OpeningOf) (journal : List Step) (x : Step) (n : NodeNo) (s : BrickState) (ord : Order) (m : Met) → x ≡ step.Input n (input.Order ord) → (net_of o journal).node n ≡ a_brick s → s.number ≡ n → is_ordered (sizes_of o) n ord ≡ true → InputMet s ord m → OrderWasRefused o (Grown journal x) (length journal) m
+input-met : (o : OpeningOf) (journal : List Step) (x : Step) (n : NodeNo) (s : BrickState) (ord : Order) (m : Met) → x ≡ step.Input n (input.Order ord)
+    → (net_of o journal).node n ≡ a_brick s → s.number ≡ n → is_ordered (sizes_of o) n ord ≡ true → InputMet s ord m
+    → OrderWasRefused o (Grown journal x) (length journal) m
 input-met o journal x n s (the_order.Join brick name via) m is here number may h = absurd h
 input-met o journal x n s (the_order.Split brick name) m is here number may h =
     let own : brick ≡ n = eqb-true brick n (and_parts (brick == n) (nat_lt n o.bricks) may).0 in
@@ -193,6 +203,8 @@ input-met o journal x n s (the_order.Split brick name) m is here number may h =
       met = ap (met_of h.1) (sym number) ∙ h.4;
     })
 
-pub input-replies : (o : OpeningOf) (journal : List Step) (x : Step) (n : NodeNo) (s : BrickState) (ord : Order) (rs : List Replied) → x ≡ step.Input n (input.Order ord) → (net_of o journal).node n ≡ a_brick s → s.number ≡ n → is_ordered (sizes_of o) n ord ≡ true → AllByRecursion (Gives (InputMet s ord)) rs → AllByRecursion (ReplyOk o (Grown journal x) (length journal)) rs
+pub input-replies : (o : OpeningOf) (journal : List Step) (x : Step) (n : NodeNo) (s : BrickState) (ord : Order) (rs : List Replied)
+    → x ≡ step.Input n (input.Order ord) → (net_of o journal).node n ≡ a_brick s → s.number ≡ n → is_ordered (sizes_of o) n ord ≡ true
+    → AllByRecursion (Gives (InputMet s ord)) rs → AllByRecursion (ReplyOk o (Grown journal x) (length journal)) rs
 input-replies o journal x n s ord rs is here number may h =
     replies-ok (InputMet s ord) o (Grown journal x) (length journal) rs (λ m k. input-met o journal x n s ord m is here number may k) h

@@ -1,4 +1,4 @@
-use Rattle.std.proofs.Common.{◌≡◌, ℕ, ◌≤◌, true, Some, List, [], ◌∷◌, ◌++◌, drop, length, refl, sym, ap, ◌∙◌, subst, arith}
+use Rattle.std.proofs.Common.{◌≡◌, ℕ, ◌≤◌, true, Some, List, [], length, refl, sym, ap, ◌∙◌, subst, arith}
 use Rattle.std.specs.List.{AllByRecursion}
 use Rattle.std.specs.Prelude.{slice_get, take}
 use Rattle.dds_base.specs.declared.number.NodeNo.{NodeNo}
@@ -49,23 +49,30 @@ start-good o =
 run-good : (o : OpeningOf) (journal : List Step) → o.bricks ≤ 64 → is_run o journal ≡ true → IsGood o journal (net_of o journal)
 run-good o journal few r = journal-keeps o (IsGood o) journal few (good-kept o few) (start-good o) r
 
-on-way : (o : OpeningOf) (journal : List Step) (from to : NodeNo) (l : Letter) → IsGood o journal (net_of o journal) → Travels (run_of o journal).world from to l → LetterOk o journal (net_of o journal) from to l
-on-way o journal from to l g t = travels (LetterOk o journal (net_of o journal) from to) (sizes_of o) (run_of o journal).world from to l (sized-run o journal) t (g.letters from to)
+on-way : (o : OpeningOf) (journal : List Step) (from to : NodeNo) (l : Letter) → IsGood o journal (net_of o journal)
+    → Travels (run_of o journal).world from to l → LetterOk o journal (net_of o journal) from to l
+on-way o journal from to l g t =
+    travels (LetterOk o journal (net_of o journal) from to) (sizes_of o) (run_of o journal).world from to l (sized-run o journal) t (g.letters from to)
 
-kept-phase : (o : OpeningOf) (journal : List Step) (node : NodeNo) (s : LibraryState) (at : ℕ) (c : OpenCall) (p : Phase) → IsGood o journal (net_of o journal) → library_at (run_of o journal).world node ≡ Some s → slice_get s.calls at ≡ Some c → c.phase ≡ p → PhaseOk o journal c.txn c.request.caller c.request.call p
+kept-phase : (o : OpeningOf) (journal : List Step) (node : NodeNo) (s : LibraryState) (at : ℕ) (c : OpenCall) (p : Phase) → IsGood o journal (net_of o journal)
+    → library_at (run_of o journal).world node ≡ Some s → slice_get s.calls at ≡ Some c → c.phase ≡ p
+    → PhaseOk o journal c.txn c.request.caller c.request.call p
 kept-phase o journal node s at c p g there is e =
     let own : NodeOk o journal node (a_library s) = subst (NodeOk o journal node) (library-node (run_of o journal).world node s there) (g.nodes node) in
     subst (PhaseOk o journal c.txn c.request.caller c.request.call) e (all-is (IsOpen (CallOk o journal) s.number s.next) s.calls at c own.1 is).kept
 
 -- an order that is answered at a place of the run
-order-met : (o : OpeningOf) (journal : List Step) (at place : ℕ) (x : Step) (m : Met) → o.bricks ≤ 64 → is_run o journal ≡ true → slice_get journal at ≡ Some x → slice_get (replies_in (run_of o (take at journal)) x) place ≡ Some (replied.Order (answered.Refused m)) → OrderWasRefused o journal at m
+order-met : (o : OpeningOf) (journal : List Step) (at place : ℕ) (x : Step) (m : Met) → o.bricks ≤ 64 → is_run o journal ≡ true → slice_get journal at ≡ Some x
+    → slice_get (replies_in (run_of o (take at journal)) x) place ≡ Some (replied.Order (answered.Refused m)) → OrderWasRefused o journal at m
 order-met o journal at place x m few r is told =
     let front = take at journal in
     let here = place-of o journal at x r is in
     let next = next-event o front x few here.possible in
     let d = done o front x next.0 few (run-good o front few here.run) next.1 in
-    let met = all-is (ReplyOk o (Grown front x) (length front)) _ place (replied.Order (answered.Refused m)) d.replies (ap (λ rs. slice_get rs place) (sym next.1.replies) ∙ told) in
-    subst (λ k. OrderWasRefused o journal k m) here.place (subst (λ steps. OrderWasRefused o steps (length front) m) here.whole (order-later o (Grown front x) _ (length front) m met))
+    let met = all-is (ReplyOk o (Grown front x) (length front)) _ place (replied.Order (answered.Refused m)) d.replies
+    (ap (λ rs. slice_get rs place) (sym next.1.replies) ∙ told) in
+    subst (λ k. OrderWasRefused o journal k m) here.place (subst (λ steps. OrderWasRefused o steps (length front) m) here.whole
+    (order-later o (Grown front x) _ (length front) m met))
 
 pub refusals-true : (o : OpeningOf) (journal : List Step) → o.bricks ≤ 64 → is_run o journal ≡ true → RefusalsWereTrue o journal
 refusals-true o journal few r =

@@ -1,4 +1,4 @@
-use Rattle.std.proofs.Common.{◌≡◌, ℕ, List, ◌++◌, refl, sym}
+use Rattle.std.proofs.Common.{◌≡◌, ℕ, List, ◌++◌}
 use Rattle.dds_base.specs.Number.{Txn}
 use Rattle.dds_base.specs.declared.number.CallNo.{CallNo}
 use Rattle.dds_base.specs.declared.number.NodeNo.{NodeNo}
@@ -27,12 +27,12 @@ use Rattle.dds_law_refusal.proofs.Later.{get-later, lease-later, met-later, upda
 --
 -- | part | why it is needed | which rows keep it |
 -- |---|---|---|
--- | a node's state has the node's number | an order says by its brick's own number what it met; an attempt names its library | all: none changes a number |
--- | an open call's attempt is its library's, and below the next one (`IsOpen`) | a letter of an attempt comes to that library; a new attempt is of no letter that is on its way | a library's: Input, and all that begin an attempt again |
--- | a Get or Prepare on its way is of an attempt that isn't to come and is of no open call but the one that it names (`TiedIn`) | what is refused of it is refused of that call | a library's send them; they end calls and begin new attempts |
--- | a Got or Vote that refuses was so (`GetWasRefused`, `UpdateWasDenied`), and its attempt is tied to the call that was refused | it is claimed; the call that takes it is that call | a brick's Get and Prepare |
--- | a LeaseRefused was so, of the brick that it comes to | it is claimed; an order may end because of it | a brick's Lease |
--- | an aborting call keeps a denial of its attempt that was so, and an asking one something that it met (`PhaseOk`) | they are claimed; what is met ends as the other | a library's Vote (to abort); Got, Aborted, MapTell and Notice (to ask) |
+-- | a node's state has its number | an order names its brick by it, an attempt its library | all: none changes it |
+-- | an open call's attempt is its library's, and no longer to come (`IsOpen`) | a new attempt is of no letter on its way | Input, and what begins again |
+-- | a Get's or Prepare's attempt is of no open call but the named one (`TiedIn`) | what is refused of it is refused of that call | what sends it or ends a call |
+-- | a Got or Vote that refuses was so, and its attempt is tied to that call | claimed; the call that takes it is that call | Get, Prepare |
+-- | a LeaseRefused was so, of the brick that it comes to | claimed; an order may end because of it | Lease |
+-- | an aborting call keeps a denial that was so, an asking one what it met (`PhaseOk`) | claimed; the one may become the other | Vote, Got, Aborted, MapTell, Notice |
 
 -- a denial of this attempt of this call
 abbrev pub WasDenied : OpeningOf → List Step → Txn → ℕ → CallNo → NodeNo → Denial → Type 0
@@ -83,7 +83,8 @@ pub record IsGood (o : OpeningOf) (journal : List Step) (n : Net) : Type 0 where
 
 -- It stays so as the journal grows, and as libraries go on.
 
-phase-later : (o : OpeningOf) (journal more : List Step) (txn : Txn) (caller : ℕ) (call : CallNo) (p : Phase) → PhaseOk o journal txn caller call p → PhaseOk o (journal ++ more) txn caller call p
+phase-later : (o : OpeningOf) (journal more : List Step) (txn : Txn) (caller : ℕ) (call : CallNo) (p : Phase) → PhaseOk o journal txn caller call p
+    → PhaseOk o (journal ++ more) txn caller call p
 phase-later o journal more txn caller call (phase.Aborting waiting why brick) h = (update-later o journal more brick txn why h.0, h.1, h.2)
 phase-later o journal more txn caller call (phase.Asking waiting newest m) h = met-later o journal more caller call m h
 phase-later o journal more txn caller call other h = tt
@@ -105,15 +106,18 @@ Lasts x y = (txn : Txn) (caller : ℕ) (call : CallNo) → TiedAt txn caller cal
 abbrev pub AllLast : Net → Net → Type 0
 AllLast n u = (k : ℕ) → Lasts (n.node k) (u.node k)
 
-answer-later : (o : OpeningOf) (journal more : List Step) (n u : Net) (from : NodeNo) (txn : Txn) (a : Answer) → AllLast n u → AnswerOk o journal n from txn a → AnswerOk o (journal ++ more) u from txn a
+answer-later : (o : OpeningOf) (journal more : List Step) (n u : Net) (from : NodeNo) (txn : Txn) (a : Answer) → AllLast n u → AnswerOk o journal n from txn a
+    → AnswerOk o (journal ++ more) u from txn a
 answer-later o journal more n u from txn (answer.Refused why) f h = (get-later o journal more from txn why h.0, f txn.library txn h.0.caller h.0.call h.1)
 answer-later o journal more n u from txn other f h = tt
 
-ballot-later : (o : OpeningOf) (journal more : List Step) (n u : Net) (from : NodeNo) (txn : Txn) (vote : Ballot) → AllLast n u → BallotOk o journal n from txn vote → BallotOk o (journal ++ more) u from txn vote
+ballot-later : (o : OpeningOf) (journal more : List Step) (n u : Net) (from : NodeNo) (txn : Txn) (vote : Ballot) → AllLast n u
+    → BallotOk o journal n from txn vote → BallotOk o (journal ++ more) u from txn vote
 ballot-later o journal more n u from txn ballot.Yes f h = tt
 ballot-later o journal more n u from txn (ballot.No why) f h = (update-later o journal more from txn why h.0, f txn.library txn h.0.caller h.0.call h.1)
 
-pub letter-later : (o : OpeningOf) (journal more : List Step) (n u : Net) (from to : NodeNo) (l : Letter) → AllLast n u → LetterOk o journal n from to l → LetterOk o (journal ++ more) u from to l
+pub letter-later : (o : OpeningOf) (journal more : List Step) (n u : Net) (from to : NodeNo) (l : Letter) → AllLast n u → LetterOk o journal n from to l
+    → LetterOk o (journal ++ more) u from to l
 letter-later o journal more n u from to (letter.Get txn caller call key name stamp) f h = f txn.library txn caller call h
 letter-later o journal more n u from to (letter.Prepare txn caller call below name stamp list op) f h = f txn.library txn caller call h
 letter-later o journal more n u from to (letter.Got txn a) f h = answer-later o journal more n u from txn a f h
@@ -121,5 +125,7 @@ letter-later o journal more n u from to (letter.Vote txn vote) f h = ballot-late
 letter-later o journal more n u from to (letter.LeaseRefused number why) f h = lease-later o journal more from to number why h
 letter-later o journal more n u from to other f h = tt
 
-pub letters-later : (o : OpeningOf) (journal more : List Step) (n u : Net) → AllLast n u → AllCarried (LetterOk o journal n) n → AllCarried (LetterOk o (journal ++ more) u) n
-letters-later o journal more n u f g a b = all-map (LetterOk o journal n a b) (LetterOk o (journal ++ more) u a b) (n.channel a b) (λ l h. letter-later o journal more n u a b l f h) (g a b)
+pub letters-later : (o : OpeningOf) (journal more : List Step) (n u : Net) → AllLast n u → AllCarried (LetterOk o journal n) n
+    → AllCarried (LetterOk o (journal ++ more) u) n
+letters-later o journal more n u f g a b =
+    all-map (LetterOk o journal n a b) (LetterOk o (journal ++ more) u a b) (n.channel a b) (λ l h. letter-later o journal more n u a b l f h) (g a b)

@@ -1,4 +1,4 @@
-use Rattle.std.proofs.Common.{◌≡◌, ℕ, ◌==◌, ◌&&◌, Bool, true, false, not, List, [], ◌∷◌, ◌++◌, refl, sym, subst}
+use Rattle.std.proofs.Common.{◌≡◌, ℕ, ◌==◌, ◌&&◌, Bool, true, false, not, List, [], ◌∷◌, refl, subst}
 use Rattle.std.specs.List.{AllByRecursion}
 use Rattle.std.specs.Prelude.{if◌then◌else◌}
 use Rattle.dds_base.specs.declared.number.NodeNo.{NodeNo}
@@ -12,7 +12,7 @@ use Rattle.dds_cluster.specs.declared.trace.Caller.{Caller}
 use Rattle.dds_net.proofs.Letters.{rest-all}
 use Rattle.dds_net.proofs.Puts.{at-put, pairs-changed}
 use Rattle.dds_net.specs.Event.{Event, nothing, unheard, unasked, brick_takes, brick_told, brick_stops, library_takes, library_asked, library_stops}
-use Rattle.dds_net.specs.Event.{Fits, IsFront, IsLeft, asked_turn, does, moved, notice_to, stops, takes, without_first}
+use Rattle.dds_net.specs.Event.{Fits, IsLeft, asked_turn, does, moved, notice_to, stops, takes, without_first}
 use Rattle.dds_net.specs.Net.{Net, Node, a_brick, a_library, Sizes, changed, gains, is_in, landing, lands, when_in}
 
 -- What is true of each node, and of each letter on its way by the nodes that it goes from and to, after an event: what was so
@@ -65,11 +65,13 @@ Sends P z (library_takes at from l s) = News P z at (live_library_turn s from l)
 Sends P z (library_asked at caller call o s) = News P z at (asked_turn s caller call o).out.letters
 Sends P z (library_stops at s kept) = (b : ℕ) → P at b letter.Notice
 
-landing-if : (P : Letter → Type 0) (c : Bool) (l : Letter) (ls : List Letter) → (c ≡ true → P l) → AllByRecursion P ls → AllByRecursion P (if c then l ∷ ls else ls)
+landing-if : (P : Letter → Type 0) (c : Bool) (l : Letter) (ls : List Letter) → (c ≡ true → P l) → AllByRecursion P ls
+    → AllByRecursion P (if c then l ∷ ls else ls)
 landing-if P true l ls f h = (f refl, h)
 landing-if P false l ls f h = h
 
-landing-news : (P : Carried) (z : Sizes) (at b : ℕ) (ls : List (NodeNo × Letter)) → AllByRecursion (Lands P z at b) ls → AllByRecursion (P at b) (landing z b ls)
+landing-news : (P : Carried) (z : Sizes) (at b : ℕ) (ls : List (NodeNo × Letter)) → AllByRecursion (Lands P z at b) ls
+    → AllByRecursion (P at b) (landing z b ls)
 landing-news P z at b [] h = tt
 landing-news P z at b (l ∷ ls) h = landing-if (P at b) (lands z l.0 b) l.1 (landing z b ls) h.0 (landing-news P z at b ls h.1)
 
@@ -80,23 +82,29 @@ when-all P false ls f = tt
 gains-news : (P : Carried) (z : Sizes) (at b : ℕ) (ls : List (NodeNo × Letter)) → News P z at ls → AllByRecursion (P at b) (gains z ls b)
 gains-news P z at b ls h = when-all (P at b) (is_in z b) (landing z b ls) (λ e. landing-news P z at b ls (h b e))
 
-takes-carried : (P : Carried) (z : Sizes) (n : Net) (at from : ℕ) (y : Node) (ls : List (NodeNo × Letter)) → News P z at ls → AllCarried P n → AllCarried P (changed n (takes z n at from y ls))
+takes-carried : (P : Carried) (z : Sizes) (n : Net) (at from : ℕ) (y : Node) (ls : List (NodeNo × Letter)) → News P z at ls → AllCarried P n
+    → AllCarried P (changed n (takes z n at from y ls))
 takes-carried P z n at from y ls h g =
     let rest = (λ (a b : ℕ). rest-all (P a b) n at from a b (g a b)) in
     let mine = (λ (b : ℕ). all-append (P at b) (without_first n at from at b) (gains z ls b) (rest at b) (gains-news P z at b ls h)) in
-    pairs-changed (λ a b x y c d. AllByRecursion (P a b) c) n (takes z n at from y ls) (record { own = mine at; from = λ b nb. mine b; to = λ a na. rest a at }) g
+    pairs-changed (λ a b x y c d. AllByRecursion (P a b) c) n (takes z n at from y ls)
+    (record { own = mine at; from = λ b nb. mine b; to = λ a na. rest a at }) g
 
-does-carried : (P : Carried) (z : Sizes) (n : Net) (at : ℕ) (y : Node) (ls : List (NodeNo × Letter)) → News P z at ls → AllCarried P n → AllCarried P (changed n (does z n at y ls))
+does-carried : (P : Carried) (z : Sizes) (n : Net) (at : ℕ) (y : Node) (ls : List (NodeNo × Letter)) → News P z at ls → AllCarried P n
+    → AllCarried P (changed n (does z n at y ls))
 does-carried P z n at y ls h g =
     let mine = (λ (b : ℕ). all-append (P at b) (n.channel at b) (gains z ls b) (g at b) (gains-news P z at b ls h)) in
     pairs-changed (λ a b x y c d. AllByRecursion (P a b) c) n (does z n at y ls) (record { own = mine at; from = λ b nb. mine b; to = λ a na. g a at }) g
 
-stops-carried : (P : Carried) (z : Sizes) (n : Net) (at : ℕ) (y : Node) (left : ℕ → List Letter) → IsLeft n at left → ((b : ℕ) → P at b letter.Notice) → AllCarried P n → AllCarried P (changed n (stops z n at y left))
+stops-carried : (P : Carried) (z : Sizes) (n : Net) (at : ℕ) (y : Node) (left : ℕ → List Letter) → IsLeft n at left → ((b : ℕ) → P at b letter.Notice)
+    → AllCarried P n → AllCarried P (changed n (stops z n at y left))
 stops-carried P z n at y left f h g =
-    let mine = (λ (b : ℕ). all-append (P at b) (left b) (notice_to z at b) (all-front (P at b) (left b) (f.front b).gone (subst (AllByRecursion (P at b)) (f.front b).is (g at b))) (when-all (P at b) (is_in z b && not (b == at)) (letter.Notice ∷ []) (λ e. (h b, tt)))) in
+    let mine = (λ (b : ℕ). all-append (P at b) (left b) (notice_to z at b) (all-front (P at b) (left b) (f.front b).gone
+    (subst (AllByRecursion (P at b)) (f.front b).is (g at b))) (when-all (P at b) (is_in z b && not (b == at)) (letter.Notice ∷ []) (λ e. (h b, tt)))) in
     pairs-changed (λ a b x y c d. AllByRecursion (P a b) c) n (stops z n at y left) (record { own = mine at; from = λ b nb. mine b; to = λ a na. g a at }) g
 
-pub letters-moved : (P : Carried) (z : Sizes) (cs : List Caller) (n : Net) (e : Event) → Fits z cs n e → AllCarried P n → Sends P z e → AllCarried P (moved z n e)
+pub letters-moved : (P : Carried) (z : Sizes) (cs : List Caller) (n : Net) (e : Event) → Fits z cs n e → AllCarried P n → Sends P z e
+    → AllCarried P (moved z n e)
 letters-moved P z cs n nothing f g h = g
 letters-moved P z cs n (unasked at caller call o) f g h = g
 letters-moved P z cs n (unheard at from l) f g h = takes-carried P z n at from (n.node at) [] (λ b e. tt) g

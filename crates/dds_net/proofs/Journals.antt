@@ -15,7 +15,6 @@ use Rattle.dds_cluster.specs.declared.trace.Trace.{Trace}
 use Rattle.dds_letters.specs.declared.letter.Letter.{Letter}
 use Rattle.dds_script.specs.Opening.{OpeningOf}
 use Rattle.dds_states.specs.declared.brick_state.BrickState.{BrickState}
-use Rattle.dds_states.specs.declared.turn.Replied.{Replied}
 use Rattle.dds_world.specs.Places.{Handles, world_at}
 use Rattle.dds_net.proofs.Places.{place-is}
 use Rattle.dds_net.proofs.Prefixes.{run-take}
@@ -24,7 +23,7 @@ use Rattle.dds_net.proofs.Steps.{step-moves}
 use Rattle.dds_net.proofs.Ways.{NodeIs, channel-is, is_brick, is_library, is_nowhere, node-is}
 use Rattle.dds_net.specs.Event.{Event, Fits, IsFirst, moved, replies_of}
 use Rattle.dds_net.specs.Law.{IsStepOf}
-use Rattle.dds_net.specs.Net.{Net, a_brick, box, channel_at, lane, letters_of, net, node_at, place_in, sent, sizes_of}
+use Rattle.dds_net.specs.Net.{Net, a_brick, box, lane, letters_of, net, node_at, place_in, sent, sizes_of}
 
 -- What is so of a journal and of the nodes and channels that it leaves, along each run; and what was so at a place of a journal
 -- stays so as the journal grows.
@@ -50,21 +49,25 @@ trace-grown t (y ∷ journal) x = trace-grown (next t y) journal x
 pub next-event : (o : OpeningOf) (journal : List Step) (x : Step) → o.bricks ≤ 64 → is_possible (run_of o journal) x ≡ true → (e : Event) × IsNext o journal x e
 next-event o journal x few p =
     let t = run_of o journal in
-    let m = step-moves (sizes_of o) t x few (sized-run o journal) p in
-    (m.event, record {
-      possible = p;
-      step = m.step;
-      fits = m.fits;
-      replies = ap (λ b. if b then (turn t.steps t.world x).replies else []) p ∙ m.replies;
-      after = ap (λ (u : Trace). net (sizes_of o) u.world) (trace-grown (start o) journal x ∙ next-is t x p) ∙ m.after;
-    })
+    let m = step-moves (sizes_of o) t x few (sized-run o journal) p in (
+      m.event,
+      record {
+        possible = p;
+        step = m.step;
+        fits = m.fits;
+        replies = ap (λ b. if b then (turn t.steps t.world x).replies else []) p ∙ m.replies;
+        after = ap (λ (u : Trace). net (sizes_of o) u.world) (trace-grown (start o) journal x ∙ next-is t x p) ∙ m.after;
+      },
+    )
 
 -- each step that comes next keeps what is said
 abbrev pub EachKeeps : OpeningOf → (List Step → Net → Type 0) → Type 0
 EachKeeps o says =
-    (journal : List Step) (x : Step) (e : Event) → IsNext o journal x e → says journal (net_of o journal) → says (Grown journal x) (moved (sizes_of o) (net_of o journal) e)
+    (journal : List Step) (x : Step) (e : Event) → IsNext o journal x e → says journal (net_of o journal)
+    → says (Grown journal x) (moved (sizes_of o) (net_of o journal) e)
 
-journal-from : (o : OpeningOf) (says : List Step → Net → Type 0) (journal more : List Step) → o.bricks ≤ 64 → EachKeeps o says → says journal (net_of o journal) → is_run_from (run_of o journal) more ≡ true → says (journal ++ more) (net_of o (journal ++ more))
+journal-from : (o : OpeningOf) (says : List Step → Net → Type 0) (journal more : List Step) → o.bricks ≤ 64 → EachKeeps o says → says journal (net_of o journal)
+    → is_run_from (run_of o journal) more ≡ true → says (journal ++ more) (net_of o (journal ++ more))
 journal-from o says journal [] few keeps g r = subst (λ steps. says steps (net_of o steps)) (sym (append-nil journal)) g
 journal-from o says journal (x ∷ more) few keeps g r =
     let p = and_parts (is_possible (run_of o journal) x) (is_run_from (next (run_of o journal) x) more) r in
@@ -73,7 +76,8 @@ journal-from o says journal (x ∷ more) few keeps g r =
     subst (λ steps. says steps (net_of o steps)) (append_assoc journal (x ∷ []) more)
     (journal-from o says (Grown journal x) more few keeps now (subst (λ (t : Trace). is_run_from t more ≡ true) (sym (trace-grown (start o) journal x)) p.1))
 
-pub journal-keeps : (o : OpeningOf) (says : List Step → Net → Type 0) (journal : List Step) → o.bricks ≤ 64 → EachKeeps o says → says [] (net_of o []) → is_run o journal ≡ true → says journal (net_of o journal)
+pub journal-keeps : (o : OpeningOf) (says : List Step → Net → Type 0) (journal : List Step) → o.bricks ≤ 64 → EachKeeps o says → says [] (net_of o [])
+    → is_run o journal ≡ true → says journal (net_of o journal)
 journal-keeps o says journal few keeps g r = journal-from o says [] journal few keeps g r
 
 -- The step at a place of a run
@@ -84,7 +88,8 @@ pub record IsPlace (o : OpeningOf) (journal : List Step) (at : ℕ) (x : Step) :
   pub whole : Grown (take at journal) x ++ drop (at + 1) journal ≡ journal
   pub place : length (take at journal) ≡ at
 
-possible-at : (t : Trace) (journal : List Step) (at : ℕ) (x : Step) → is_run_from t journal ≡ true → slice_get journal at ≡ Some x → is_possible (trace_from t (take at journal)) x ≡ true
+possible-at : (t : Trace) (journal : List Step) (at : ℕ) (x : Step) → is_run_from t journal ≡ true → slice_get journal at ≡ Some x
+    → is_possible (trace_from t (take at journal)) x ≡ true
 possible-at t [] at x r e = cc
 possible-at t (y ∷ journal) zero x r e =
     let is : y ≡ x = cc in
@@ -124,12 +129,14 @@ front-has (x ∷ journal) more (suc at) h = front-has journal more at (omega (ar
 pub step-later : (journal more : List Step) (at : ℕ) (x : Step) → slice_get journal at ≡ Some x → slice_get (journal ++ more) at ≡ Some x
 step-later journal more at x is = front-has journal more at (slice_get_within journal at x is) ∙ is
 
-pub world-later : (o : OpeningOf) (journal more : List Step) (at : ℕ) (x : Step) → slice_get journal at ≡ Some x → world_at o (journal ++ more) at ≡ world_at o journal at
+pub world-later : (o : OpeningOf) (journal more : List Step) (at : ℕ) (x : Step) → slice_get journal at ≡ Some x
+    → world_at o (journal ++ more) at ≡ world_at o journal at
 world-later o journal more at x is =
     let inside = slice_get_within journal at x is in
     ap (λ (steps : List Step). (run_of o steps).world) (take-append-le at journal more (omega (arith, inside)))
 
-abbrev pub handles-later : (o : OpeningOf) (journal more : List Step) (at : ℕ) (brick : NodeNo) (l : Letter) (s : BrickState) → Handles o journal at brick l s → Handles o (journal ++ more) at brick l s
+abbrev pub handles-later : (o : OpeningOf) (journal more : List Step) (at : ℕ) (brick : NodeNo) (l : Letter) (s : BrickState) → Handles o journal at brick l s
+    → Handles o (journal ++ more) at brick l s
 handles-later o journal more at brick l s h =
     let same = world-later o journal more at _ h.step in
     record {
@@ -152,7 +159,8 @@ brick-of : (w : World) (n : ℕ) (s : BrickState) → node_at w n ≡ a_brick s 
 brick-of w n s h = brick-if w n s (node-is w n) h
 
 -- the brick in the world in which the step at the end of a journal stands
-pub brick-now : (o : OpeningOf) (journal : List Step) (x : Step) (n : ℕ) (s : BrickState) → (net_of o journal).node n ≡ a_brick s → brick_at (world_at o (Grown journal x) (length journal)) n ≡ Some s
+pub brick-now : (o : OpeningOf) (journal : List Step) (x : Step) (n : ℕ) (s : BrickState) → (net_of o journal).node n ≡ a_brick s
+    → brick_at (world_at o (Grown journal x) (length journal)) n ≡ Some s
 brick-now o journal x n s here = ap (λ (v : World). brick_at v n) (world-now o journal (x ∷ [])) ∙ brick-of (run_of o journal).world n s here
 
 pub record FirstOn (ms : List Message) (l : Letter) : Type 0 where
@@ -164,7 +172,8 @@ first-on : (ms more : List Message) (l : Letter) (others : List Letter) → has_
 first-on [] more l others h e = cc
 first-on (m ∷ ms) more l others h e = record { message = m; first = refl; letter = cc }
 
-pub first-of : (o : OpeningOf) (journal : List Step) (n from : NodeNo) (l : Letter) → is_possible (run_of o journal) (step.Handle n from) ≡ true → IsFirst (sizes_of o) (net_of o journal) n from l → FirstOn (link (run_of o journal).world from n) l
+pub first-of : (o : OpeningOf) (journal : List Step) (n from : NodeNo) (l : Letter) → is_possible (run_of o journal) (step.Handle n from) ≡ true
+    → IsFirst (sizes_of o) (net_of o journal) n from l → FirstOn (link (run_of o journal).world from n) l
 first-of o journal n from l p f =
     let w = (run_of o journal).world in
     let z = sizes_of o in
@@ -176,7 +185,9 @@ first-of o journal n from l p f =
     let whole = sym (channel-is z w from n f.sender f.receiver) ∙ f.first in
     subst (λ ms. FirstOn ms l) (sym at) (first-on (lane w i j) (sent z.bricks j (box w i)) l f.others (ap has_first (sym at) ∙ may.1) whole)
 
-abbrev pub handles-now : (o : OpeningOf) (journal : List Step) (x : Step) (n from : NodeNo) (l : Letter) (s : BrickState) → x ≡ step.Handle n from → is_possible (run_of o journal) x ≡ true → IsFirst (sizes_of o) (net_of o journal) n from l → (net_of o journal).node n ≡ a_brick s → s.stopped ≡ false → Handles o (Grown journal x) (length journal) n l s
+abbrev pub handles-now : (o : OpeningOf) (journal : List Step) (x : Step) (n from : NodeNo) (l : Letter) (s : BrickState) → x ≡ step.Handle n from
+    → is_possible (run_of o journal) x ≡ true → IsFirst (sizes_of o) (net_of o journal) n from l → (net_of o journal).node n ≡ a_brick s → s.stopped ≡ false
+    → Handles o (Grown journal x) (length journal) n l s
 handles-now o journal x n from l s is p f here live =
     let w = (run_of o journal).world in
     let now = world-now o journal (x ∷ []) in

@@ -1,4 +1,4 @@
-use Rattle.std.proofs.Common.{ℕ, ◌==◌, ◌&&◌, Bool, true, false, not, List, [], ◌∷◌, ◌++◌, subst}
+use Rattle.std.proofs.Common.{ℕ, ◌==◌, ◌&&◌, Bool, true, false, not, List, [], ◌∷◌, subst}
 use Rattle.std.specs.List.{AllByRecursion}
 use Rattle.std.specs.Prelude.{drop, if◌then◌else◌}
 use Rattle.dds_base.specs.declared.number.NodeNo.{NodeNo}
