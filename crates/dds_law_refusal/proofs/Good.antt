@@ -28,11 +28,11 @@ use Rattle.dds_law_refusal.proofs.Later.{get-later, lease-later, met-later, upda
 -- | part | why it is needed | which rows keep it |
 -- |---|---|---|
 -- | a node's state has its number | an order names its brick by it, an attempt its library | all: none changes it |
--- | an open call's attempt is its library's, and no longer to come (`IsOpen`) | a new attempt is of no letter on its way | Input, and what begins again |
--- | a Get's or Prepare's attempt is of no open call but the named one (`TiedIn`) | what is refused of it is refused of that call | what sends it or ends a call |
+-- | an open call's attempt is its library's, not to come (`IsOpen`) | a new attempt is of no letter on its way | Input, and what begins again |
+-- | a Get's or Prepare's attempt is of no open call but its own (`TiedIn`) | what is refused of it is refused of that call | what sends it or ends a call |
 -- | a Got or Vote that refuses was so, and its attempt is tied to that call | claimed; the call that takes it is that call | Get, Prepare |
 -- | a LeaseRefused was so, of the brick that it comes to | claimed; an order may end because of it | Lease |
--- | an aborting call keeps a denial that was so, an asking one what it met (`PhaseOk`) | claimed; the one may become the other | Vote, Got, Aborted, MapTell, Notice |
+-- | an aborting call keeps a denial that was so, an asking one what it met (`PhaseOk`) | claimed; one becomes the other | Vote, Got, Aborted, MapTell, Notice |
 
 -- a denial of this attempt of this call
 abbrev pub WasDenied : OpeningOf → List Step → Txn → ℕ → CallNo → NodeNo → Denial → Type 0
