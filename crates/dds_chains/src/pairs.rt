@@ -18,7 +18,7 @@ ghost use Rattle.dds_chains.specs.Answers.{IsNoPage, IsReadAs, Changed, Made};
 
 use crate::fault::TableFault;
 use crate::space::Space;
-use crate::table::{Slot, Chains, first_page, no_buckets, place_of};
+use crate::table::{Chains, Slot, first_page, no_buckets, place_of};
 use crate::value::{Placed, fetch, is_place_of, len_of, place};
 use dds_base::items::Items;
 use dds_base::memory::Memory;

@@ -15,7 +15,7 @@ ghost use Rattle.dds_base.specs.Place.{is_before};
 use crate::fault::TableFault;
 use crate::pairs::get;
 use crate::space::Space;
-use crate::table::{Slot, Chains};
+use crate::table::{Chains, Slot};
 use dds_base::pair::{Pair, PairList};
 use dds_base::place::{is_after, is_before};
 use dds_disk::disk::Disk;

@@ -17,7 +17,7 @@ ghost use Rattle.dds_chains.specs.Lawful.{IsSilent, IsChainRefused, IsTableRefus
 use crate::fault::TableFault;
 use crate::pairs::{read_bucket, write_root};
 use crate::space::Space;
-use crate::table::{Slot, Chains, first_page};
+use crate::table::{Chains, Slot, first_page};
 use dds_base::memory::Memory;
 use dds_disk::disk::Disk;
 use dds_pages::bucket::BucketPage;

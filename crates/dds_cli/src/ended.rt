@@ -3,8 +3,8 @@
 ghost use Rattle.std.specs.Prelude.{◌≡◌, []};
 ghost use Rattle.dds_ends.specs.End.{status_of};
 
-use dds_ends::end::End;
 use dds_cluster::step::Journal;
+use dds_ends::end::End;
 use std::alloc::Global;
 
 /// How a command ended, with its status and the journal of its steps. The journal is empty where no script was run.

@@ -2,6 +2,7 @@
 
 use dds_base::number::{CallNo, CallerNo, NodeNo};
 use dds_base::op::Reply;
+use dds_cluster::step::{Journal, Step};
 use dds_ends::command::BYTES;
 use dds_script::opening::Script;
 use dds_script::read_script::read_script;
@@ -9,7 +10,6 @@ use dds_transcript::line_text::line_text;
 use dds_transcript::report_line::ReportLine;
 use dds_walk::reports::walk_script;
 use dds_world::runs::{calls, history, is_run};
-use dds_cluster::step::{Journal, Step};
 use std::alloc::Global;
 use std::process::Abort;
 use std::test::Fail;

@@ -52,10 +52,18 @@ takes_old places.Body = false
 
 -- reading words leads from one state to the next: one case for each kind of line
 pub data MovesBy : Reader → List (List ℕ) → Reader → Type 0 where
-  cluster : (s : Reader) (ws : List (List ℕ)) (r : Ranges) → s.place ≡ places.BeforeCluster → ws ≡ codes "cluster" ∷ decimal r.bricks ∷ decimal r.libraries ∷ decimal r.callers ∷ [] → IsRanges r → MovesBy s ws (record s { place = places.Leaves; ranges = r })
-  leaf : (s : Reader) (ws : List (List ℕ)) (name : Name) (list : List ℕ) → s.place ≡ places.Leaves → ws ≡ codes "leaf" ∷ name_text name ∷ list_text list ∷ [] → IsName name → IsGroup s.ranges.bricks list → meets s.leaves name ≡ false → MovesBy s ws (record s { leaves = s.leaves ++ opening_leaf (length s.leaves) name list ∷ [] })
-  old : (s : Reader) (ws : List (List ℕ)) (library : ℕ) (name : Name) (list : List ℕ) → takes_old s.place ≡ true → IsOpened s.place s → ws ≡ codes "old" ∷ decimal library ∷ name_text name ∷ list_text list ∷ [] → library < s.ranges.libraries → IsName name → IsGroup s.ranges.bricks list → MovesBy s ws (record s { place = places.Old; stale = s.stale ++ stale_leaf library (stale_at library s.stale) name list ∷ [] })
-  line : (s : Reader) (ws : List (List ℕ)) (l : Line) → IsOpened s.place s → IsLineOf s.ranges ws l → MovesBy s ws (record s { place = places.Body; lines = s.lines ++ l ∷ [] })
+  cluster : (s : Reader) (ws : List (List ℕ)) (r : Ranges) → s.place ≡ places.BeforeCluster →
+      ws ≡ codes "cluster" ∷ decimal r.bricks ∷ decimal r.libraries ∷ decimal r.callers ∷ [] → IsRanges r →
+      MovesBy s ws (record s { place = places.Leaves; ranges = r })
+  leaf : (s : Reader) (ws : List (List ℕ)) (name : Name) (list : List ℕ) → s.place ≡ places.Leaves →
+      ws ≡ codes "leaf" ∷ name_text name ∷ list_text list ∷ [] → IsName name → IsGroup s.ranges.bricks list → meets s.leaves name ≡ false →
+      MovesBy s ws (record s { leaves = s.leaves ++ opening_leaf (length s.leaves) name list ∷ [] })
+  old : (s : Reader) (ws : List (List ℕ)) (library : ℕ) (name : Name) (list : List ℕ) → takes_old s.place ≡ true → IsOpened s.place s →
+      ws ≡ codes "old" ∷ decimal library ∷ name_text name ∷ list_text list ∷ [] → library < s.ranges.libraries → IsName name →
+      IsGroup s.ranges.bricks list →
+      MovesBy s ws (record s { place = places.Old; stale = s.stale ++ stale_leaf library (stale_at library s.stale) name list ∷ [] })
+  line : (s : Reader) (ws : List (List ℕ)) (l : Line) → IsOpened s.place s → IsLineOf s.ranges ws l →
+      MovesBy s ws (record s { place = places.Body; lines = s.lines ++ l ∷ [] })
 
 -- the text is accepted, and leads to the next state
 abbrev pub Takes : Reader → List ℕ → Reader → Type 0
@@ -85,7 +93,16 @@ pub record IsReadTo (bytes : List ℕ) (rest : List ℕ) (state : Reader) : Type
 
 abbrev pub script_of : Reader → ScriptOf
 script_of s =
-    record { opening = record { bricks = s.ranges.bricks; libraries = s.ranges.libraries; callers = s.ranges.callers; leaves = s.leaves; old = s.stale }; lines = s.lines }
+    record {
+      opening = record {
+        bricks = s.ranges.bricks;
+        libraries = s.ranges.libraries;
+        callers = s.ranges.callers;
+        leaves = s.leaves;
+        old = s.stale;
+      };
+      lines = s.lines;
+    }
 
 -- the bytes are the script
 pub record Accepts (bytes : List ℕ) (script : ScriptOf) : Type 0 where
@@ -192,7 +209,8 @@ IsGate s (Some kind) = IsEndFault s.place s kind
 pub data IsRefused : Reader → List ℕ → ScriptKind → Type 0 where
   ended : (s : Reader) (kind : ScriptKind) → IsEndFault s.place s kind → IsRefused s [] kind
   no_end : (s : Reader) (rest : List ℕ) → 0 < length rest → HasNo 10 rest → IsRefused s rest kinds.NoEnd
-  refused : (s : Reader) (text more : List ℕ) (kind : ScriptKind) → HasNo 10 text → IsFaultOf s (text_form text) (words text) kind → IsRefused s (text ++ 10 ∷ more) kind
+  refused : (s : Reader) (text more : List ℕ) (kind : ScriptKind) → HasNo 10 text → IsFaultOf s (text_form text) (words text) kind →
+      IsRefused s (text ++ 10 ∷ more) kind
 
 -- the fault is that of the first line that is not accepted
 pub record IsFirstFault (bytes : List ℕ) (fault : ScriptFault) : Type 0 where

@@ -73,9 +73,11 @@ counted_text counted.History = codes "history"
 
 -- a leaf of a brick: its name, its epoch, how many pairs it has, and its group
 abbrev pub leaf_text : Name → ℕ → ℕ → List ℕ → List ℕ
-leaf_text name epoch pairs list = codes "leaf " ++ (name_text name ++ (codes " epoch " ++ (decimal epoch ++ (codes " pairs " ++ (decimal pairs ++ (codes " list " ++ list_text list))))))
+leaf_text name epoch pairs list =
+    codes "leaf " ++ (name_text name
+    ++ (codes " epoch " ++ (decimal epoch ++ (codes " pairs " ++ (decimal pairs ++ (codes " list " ++ list_text list))))))
 
--- a brick that is up, and how many letters are pending there
+-- a brick that is up, and how many transactions are pending there
 abbrev pub up_text : ℕ → ℕ → List ℕ
 up_text brick pending = brick_text brick ++ (codes " up pending " ++ decimal pending)
 

@@ -310,7 +310,15 @@ lines_done limit w (l ∷ ls) = lines_done limit (line_done limit w l) ls
 -- before the first line, along a journal or alone
 abbrev pub first_walk : ScriptOf → Option (List Step) → Walk
 first_walk script rest =
-    record { trace = start script.opening; orders = replicate script.opening.bricks None; counts = replicate script.opening.callers 0; picking = Fifo; rest = rest; steps = []; lines = [] }
+    record {
+      trace = start script.opening;
+      orders = replicate script.opening.bricks None;
+      counts = replicate script.opening.callers 0;
+      picking = Fifo;
+      rest = rest;
+      steps = [];
+      lines = [];
+    }
 
 -- the journal that a script determines
 abbrev pub steps : ScriptOf → List Step

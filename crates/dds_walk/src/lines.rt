@@ -16,12 +16,12 @@ use dds_base::items::Items;
 use dds_base::memory::Memory;
 use dds_base::number::{CallNo, CallerNo, NodeNo};
 use dds_base::op::{Op, Order};
-use dds_script::line::Line;
-use dds_transcript::report_line::ReportLine;
 use dds_cluster::possible::is_possible;
 use dds_cluster::queue::Queue;
 use dds_cluster::step::{Input, Step};
 use dds_cluster::trace::Caller;
+use dds_script::line::Line;
+use dds_transcript::report_line::ReportLine;
 use std::alloc::Global;
 
 /// Walks lines, one after another. A `quiet` makes at most so many events.

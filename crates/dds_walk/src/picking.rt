@@ -9,8 +9,8 @@ use crate::run::Run;
 use dds_agenda::entry::{Entry, Slot};
 use dds_base::memory::Memory;
 use dds_base::number::NodeNo;
-use dds_script::line::Picker;
 use dds_cluster::step::Step;
+use dds_script::line::Picker;
 use rand_core::utils::NextWord;
 use rand_pcg::Pcg32;
 

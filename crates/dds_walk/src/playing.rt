@@ -9,10 +9,10 @@ use crate::walk::{Lead, Walk};
 use dds_base::items::Items;
 use dds_base::memory::Memory;
 use dds_base::number::NodeNo;
-use dds_states::turn::{Replied, ReplyList};
-use dds_transcript::report_line::{OrderKind, ReportLine};
 use dds_cluster::possible::is_possible;
 use dds_cluster::step::{Input, Step};
+use dds_states::turn::{Replied, ReplyList};
+use dds_transcript::report_line::{OrderKind, ReportLine};
 use std::alloc::Global;
 
 /// Makes a step, and prints its answers.

@@ -14,13 +14,13 @@ use crate::walk::Walk;
 use dds_base::items::Items;
 use dds_base::memory::Memory;
 use dds_base::number::{CallNo, CallerNo, NodeNo};
-use dds_script::opening::Script;
-use dds_transcript::report_line::{OrderKind, ReportLine};
 use dds_cluster::queue::Queue;
-use dds_world::runs::stands_in;
 use dds_cluster::step::{EVENTS, Input, Journal, Step};
 use dds_cluster::told_list::ToldList;
 use dds_cluster::trace::{Caller, Made};
+use dds_script::opening::Script;
+use dds_transcript::report_line::{OrderKind, ReportLine};
+use dds_world::runs::stands_in;
 use std::alloc::Global;
 
 /// The steps of a walk, and the lines that it printed.

@@ -8,12 +8,12 @@ use crate::picking::event_of;
 use crate::touched::{entry_at, entry_on, touched};
 use dds_agenda::agenda::Agenda;
 use dds_base::memory::Memory;
-use dds_script::opening::Opening;
-use dds_states::turn::ReplyList;
 use dds_cluster::opening_world::start;
 use dds_cluster::run::next;
 use dds_cluster::step::Step;
 use dds_cluster::trace::Trace;
+use dds_script::opening::Opening;
+use dds_states::turn::ReplyList;
 use std::alloc::Global;
 use std::marker::Model;
 

@@ -6,10 +6,10 @@ ghost use Rattle.dds_walk.specs.Walk.{is_input_of, is_stop_before, kind_of, lead
 use crate::walk::Lead;
 use dds_base::number::{CallNo, CallerNo, NodeNo};
 use dds_base::op::Order;
-use dds_groups::order::same_name;
-use dds_transcript::report_line::OrderKind;
 use dds_cluster::queue::Queue;
 use dds_cluster::step::{Input, Step};
+use dds_groups::order::same_name;
+use dds_transcript::report_line::OrderKind;
 
 /// The kind of an order.
 pub fn kind_of(order: &Order) -> OrderKind

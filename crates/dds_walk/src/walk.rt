@@ -3,9 +3,9 @@
 use crate::picking::Picking;
 use crate::run::Run;
 use dds_base::items::Items;
-use dds_transcript::report_line::{OrderKind, ReportLine};
 use dds_cluster::queue::Queue;
 use dds_cluster::step::{Journal, Step};
+use dds_transcript::report_line::{OrderKind, ReportLine};
 
 /// How the journal that a walk follows has the step that the script determines: next, or behind a stop of the step's own
 /// node, or not.
