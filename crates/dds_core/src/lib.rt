@@ -4,5 +4,3 @@
 pub mod brick;
 pub mod library;
 pub mod notice;
-#[cfg(test)]
-mod tests;
