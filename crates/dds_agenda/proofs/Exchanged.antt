@@ -16,7 +16,8 @@ abbrev IsThere : Option Entry → List Entry → Type 0
 IsThere None es = Unit {0}
 IsThere (Some k) es = 0 < times k es
 
-sum-take : (f : Entry → ℕ) (old : Option Entry) (es : List Entry) → IfSome old (λ e. IsOrdered es) → IsThere old es → sum_by f (take_some old es) + weight f old ≡ sum_by f es
+sum-take : (f : Entry → ℕ) (old : Option Entry) (es : List Entry) → IfSome old (λ e. IsOrdered es) → IsThere old es →
+    sum_by f (take_some old es) + weight f old ≡ sum_by f es
 sum-take f None es a t = omega arith
 sum-take f (Some k) es a t = sum-out f k es a t
 
@@ -35,7 +36,9 @@ there (Some k) es fs same low =
     let some : 1 ≤ sum_by f fs = omega (arith, all, moved, one) in
     omega (arith, some)
 
-pub exchanged-same : (old new : Option Entry) (es after fs : List Entry) → IfSome old (λ e. IsOrdered fs) → AreSame es fs → ((f : Entry → ℕ) → weight f old ≤ sum_by f es) → ((f : Entry → ℕ) → sum_by f after + weight f old ≡ sum_by f es + weight f new) → AreSame after (exchanged old new fs)
+pub exchanged-same : (old new : Option Entry) (es after fs : List Entry) → IfSome old (λ e. IsOrdered fs) → AreSame es fs →
+    ((f : Entry → ℕ) → weight f old ≤ sum_by f es) → ((f : Entry → ℕ) → sum_by f after + weight f old ≡ sum_by f es + weight f new) →
+    AreSame after (exchanged old new fs)
 exchanged-same old new es after fs ordered same low change = λ f.
     let taken = sum-take f old fs ordered (there old es fs same low) in
     let came = sum-some f new (take_some old fs) in

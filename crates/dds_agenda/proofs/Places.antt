@@ -13,7 +13,8 @@ use Rattle.dds_agenda.specs.declared.entry.Entry.{Entry}
 abbrev pub place_of : Entry → List Entry → ℕ
 place_of k es = prefix_len (λ x. precedes x k) es
 
-put-if : (k e : Entry) (es : List Entry) (b : Bool) → insert es (place_of k es) k ≡ put k es → insert (e ∷ es) (if b then 1 + place_of k es else 0) k ≡ (if b then e ∷ put k es else k ∷ e ∷ es)
+put-if : (k e : Entry) (es : List Entry) (b : Bool) → insert es (place_of k es) k ≡ put k es →
+    insert (e ∷ es) (if b then 1 + place_of k es else 0) k ≡ (if b then e ∷ put k es else k ∷ e ∷ es)
 put-if k e es true h =
     let n : 1 + place_of k es ≡ suc (place_of k es) = omega arith in
     rw n (ap (λ l. e ∷ l) h)
@@ -23,18 +24,24 @@ pub put-there : (k : Entry) (es : List Entry) → insert es (place_of k es) k �
 put-there k [] = refl
 put-there k (e ∷ es) = put-if k e es (precedes e k) (put-there k es)
 
-out-if : (k e d : Entry) (es : List Entry) (b : Bool) → (place_of k es < length es → precedes k (get_or es (place_of k es) d) ≡ false → remove es (place_of k es) ≡ take_out k es) → (if b then 1 + place_of k es else 0) < length (e ∷ es) → precedes k (get_or (e ∷ es) (if b then 1 + place_of k es else 0) d) ≡ false → remove (e ∷ es) (if b then 1 + place_of k es else 0) ≡ (if b then e ∷ take_out k es else (if precedes k e then e ∷ es else es))
+out-if : (k e d : Entry) (es : List Entry) (b : Bool) →
+    (place_of k es < length es → precedes k (get_or es (place_of k es) d) ≡ false → remove es (place_of k es) ≡ take_out k es) →
+    (if b then 1 + place_of k es else 0) < length (e ∷ es) → precedes k (get_or (e ∷ es) (if b then 1 + place_of k es else 0) d) ≡ false →
+    remove (e ∷ es) (if b then 1 + place_of k es else 0) ≡ (if b then e ∷ take_out k es else (if precedes k e then e ∷ es else es))
 out-if k e d es true h l p =
     let n : 1 + place_of k es ≡ suc (place_of k es) = omega arith in
     rw n (ap (λ x. e ∷ x) (h (omega (arith, l)) (subst (λ i. precedes k (get_or (e ∷ es) i d) ≡ false) n p)))
 out-if k e d es false h l p = sym (ap (λ b. if b then e ∷ es else es) p)
 
 -- the entry at its place goes, where it is the one
-pub out-there : (k d : Entry) (es : List Entry) → place_of k es < length es → precedes k (get_or es (place_of k es) d) ≡ false → remove es (place_of k es) ≡ take_out k es
+pub out-there : (k d : Entry) (es : List Entry) → place_of k es < length es → precedes k (get_or es (place_of k es) d) ≡ false →
+    remove es (place_of k es) ≡ take_out k es
 out-there k d [] l p = absurd (omega (arith, l))
 out-there k d (e ∷ es) l p = out-if k e d es (precedes e k) (out-there k d es) l p
 
-in-if : (k e d : Entry) (es : List Entry) (b : Bool) → (place_of k es < length es → precedes k (get_or es (place_of k es) d) ≡ true → es ≡ take_out k es) → (if b then 1 + place_of k es else 0) < length (e ∷ es) → precedes k (get_or (e ∷ es) (if b then 1 + place_of k es else 0) d) ≡ true → e ∷ es ≡ (if b then e ∷ take_out k es else (if precedes k e then e ∷ es else es))
+in-if : (k e d : Entry) (es : List Entry) (b : Bool) → (place_of k es < length es → precedes k (get_or es (place_of k es) d) ≡ true → es ≡ take_out k es) →
+    (if b then 1 + place_of k es else 0) < length (e ∷ es) → precedes k (get_or (e ∷ es) (if b then 1 + place_of k es else 0) d) ≡ true →
+    e ∷ es ≡ (if b then e ∷ take_out k es else (if precedes k e then e ∷ es else es))
 in-if k e d es true h l p =
     let n : 1 + place_of k es ≡ suc (place_of k es) = omega arith in
     ap (λ x. e ∷ x) (h (omega (arith, l)) (subst (λ i. precedes k (get_or (e ∷ es) i d) ≡ true) n p))
@@ -45,7 +52,8 @@ pub all-stay : (k d : Entry) (es : List Entry) → place_of k es < length es →
 all-stay k d [] l p = refl
 all-stay k d (e ∷ es) l p = in-if k e d es (precedes e k) (all-stay k d es) l p
 
-past-if : (k e : Entry) (es : List Entry) (b : Bool) → (length es ≤ place_of k es → es ≡ take_out k es) → length (e ∷ es) ≤ (if b then 1 + place_of k es else 0) → e ∷ es ≡ (if b then e ∷ take_out k es else (if precedes k e then e ∷ es else es))
+past-if : (k e : Entry) (es : List Entry) (b : Bool) → (length es ≤ place_of k es → es ≡ take_out k es) →
+    length (e ∷ es) ≤ (if b then 1 + place_of k es else 0) → e ∷ es ≡ (if b then e ∷ take_out k es else (if precedes k e then e ∷ es else es))
 past-if k e es true h l = ap (λ x. e ∷ x) (h (omega (arith, l)))
 past-if k e es false h l = absurd (omega (arith, l))
 
@@ -54,7 +62,8 @@ none-stands k [] l = refl
 none-stands k (e ∷ es) l = past-if k e es (precedes e k) (none-stands k es) l
 
 -- the order is kept
-all-if : (P : Entry → Type 0) (k e : Entry) (es : List Entry) (b : Bool) → P k → AllByRecursion P (e ∷ es) → AllByRecursion P (put k es) → AllByRecursion P (if b then e ∷ put k es else k ∷ e ∷ es)
+all-if : (P : Entry → Type 0) (k e : Entry) (es : List Entry) (b : Bool) → P k → AllByRecursion P (e ∷ es) → AllByRecursion P (put k es) →
+    AllByRecursion P (if b then e ∷ put k es else k ∷ e ∷ es)
 all-if P k e es true p a h = (a.0, h)
 all-if P k e es false p a h = (p, a)
 
@@ -66,7 +75,8 @@ all-weaker : (P Q : Entry → Type 0) (es : List Entry) → ((x : Entry) → P x
 all-weaker P Q [] h a = tt
 all-weaker P Q (e ∷ es) h a = (h e a.0, all-weaker P Q es h a.1)
 
-ordered-if : (k e : Entry) (es : List Entry) (b : Bool) → precedes e k ≡ b → IsOrdered (e ∷ es) → IsOrdered (put k es) → IsOrdered (if b then e ∷ put k es else k ∷ e ∷ es)
+ordered-if : (k e : Entry) (es : List Entry) (b : Bool) → precedes e k ≡ b → IsOrdered (e ∷ es) → IsOrdered (put k es) →
+    IsOrdered (if b then e ∷ put k es else k ∷ e ∷ es)
 ordered-if k e es true p a h =
     (all-put (λ x. precedes x e ≡ false) k es (precedes-one-way e k p) a.0, h)
 ordered-if k e es false p a h =
@@ -76,7 +86,8 @@ pub ordered-put : (k : Entry) (es : List Entry) → IsOrdered es → IsOrdered (
 ordered-put k [] a = (tt, tt)
 ordered-put k (e ∷ es) a = ordered-if k e es (precedes e k) refl a (ordered-put k es a.1)
 
-all-out-if : (P : Entry → Type 0) (k e : Entry) (es : List Entry) (b c : Bool) → AllByRecursion P (e ∷ es) → AllByRecursion P (take_out k es) → AllByRecursion P (if b then e ∷ take_out k es else (if c then e ∷ es else es))
+all-out-if : (P : Entry → Type 0) (k e : Entry) (es : List Entry) (b c : Bool) → AllByRecursion P (e ∷ es) → AllByRecursion P (take_out k es) →
+    AllByRecursion P (if b then e ∷ take_out k es else (if c then e ∷ es else es))
 all-out-if P k e es true c a h = (a.0, h)
 all-out-if P k e es false true a h = a
 all-out-if P k e es false false a h = a.1
@@ -85,7 +96,8 @@ all-out : (P : Entry → Type 0) (k : Entry) (es : List Entry) → AllByRecursio
 all-out P k [] a = tt
 all-out P k (e ∷ es) a = all-out-if P k e es (precedes e k) (precedes k e) a (all-out P k es a.1)
 
-ordered-out-if : (k e : Entry) (es : List Entry) (b c : Bool) → IsOrdered (e ∷ es) → IsOrdered (take_out k es) → IsOrdered (if b then e ∷ take_out k es else (if c then e ∷ es else es))
+ordered-out-if : (k e : Entry) (es : List Entry) (b c : Bool) → IsOrdered (e ∷ es) → IsOrdered (take_out k es) →
+    IsOrdered (if b then e ∷ take_out k es else (if c then e ∷ es else es))
 ordered-out-if k e es true c a h = (all-out (λ x. precedes x e ≡ false) k es a.0, h)
 ordered-out-if k e es false true a h = a
 ordered-out-if k e es false false a h = a.1
@@ -120,7 +132,9 @@ not-there k (e ∷ es) a =
     let one : is_same k e ≡ false = grind (arith, a.0) in
     count-cons (is_same k) e es ∙ ap (λ b. (if b then 1 else 0) + times k es) one ∙ omega (arith, not-there k es a.1)
 
-sum-if : (f : Entry → ℕ) (k e : Entry) (es : List Entry) (b c : Bool) → precedes e k ≡ b → precedes k e ≡ c → IsOrdered (e ∷ es) → 0 < times k (e ∷ es) → (0 < times k es → sum_by f (take_out k es) + f k ≡ sum_by f es) → sum_by f (if b then e ∷ take_out k es else (if c then e ∷ es else es)) + f k ≡ sum_by f (e ∷ es)
+sum-if : (f : Entry → ℕ) (k e : Entry) (es : List Entry) (b c : Bool) → precedes e k ≡ b → precedes k e ≡ c → IsOrdered (e ∷ es) → 0 < times k (e ∷ es) →
+    (0 < times k es → sum_by f (take_out k es) + f k ≡ sum_by f es) →
+    sum_by f (if b then e ∷ take_out k es else (if c then e ∷ es else es)) + f k ≡ sum_by f (e ∷ es)
 sum-if f k e es true c p q a l h =
     let one : is_same k e ≡ false = grind (arith, p) in
     let t : times k (e ∷ es) ≡ times k es = count-cons (is_same k) e es ∙ ap (λ b. (if b then 1 else 0) + times k es) one ∙ omega arith in
@@ -138,7 +152,9 @@ sum-out f k [] a l = absurd (omega (arith, l))
 sum-out f k (e ∷ es) a l = sum-if f k e es (precedes e k) (precedes k e) refl refl a l (sum-out f k es a.1)
 
 -- a search by halves finds an entry's place
-parts-if : (k e d : Entry) (es : List Entry) (i j : ℕ) → IsOrdered (e ∷ es) → ((a b : ℕ) → a ≤ b → b < length es → precedes (get_or es b d) k ≡ true → precedes (get_or es a d) k ≡ true) → i ≤ j → j < length (e ∷ es) → precedes (get_or (e ∷ es) j d) k ≡ true → precedes (get_or (e ∷ es) i d) k ≡ true
+parts-if : (k e d : Entry) (es : List Entry) (i j : ℕ) → IsOrdered (e ∷ es) →
+    ((a b : ℕ) → a ≤ b → b < length es → precedes (get_or es b d) k ≡ true → precedes (get_or es a d) k ≡ true) → i ≤ j → j < length (e ∷ es) →
+    precedes (get_or (e ∷ es) j d) k ≡ true → precedes (get_or (e ∷ es) i d) k ≡ true
 parts-if k e d es zero zero a h m l p = p
 parts-if k e d es zero (suc j) a h m l p =
     precedes-over e (get_or es j d) k (all-at (λ x. precedes x e ≡ false) es j d a.0 (omega (arith, l))) p
@@ -154,20 +170,24 @@ pub ordered-parts : (k : Entry) (es : List Entry) → IsOrdered es → IsPartiti
 ordered-parts k es a = λ i j d m l p. parts k d es i j a m l p
 
 -- where memory may be missing
-pub insert-ordered : (r : Result (Unit {0}) Memory) (k : Entry) (es new : List Entry) (place : ℕ) → place ≡ place_of k es → OnOk r (new ≡ insert es place k) → OnErr r (new ≡ es) → IsOrdered es → IsOrdered new
+pub insert-ordered : (r : Result (Unit {0}) Memory) (k : Entry) (es new : List Entry) (place : ℕ) → place ≡ place_of k es → OnOk r (new ≡ insert es place k) →
+    OnErr r (new ≡ es) → IsOrdered es → IsOrdered new
 insert-ordered (Ok x) k es new place p o e a =
     subst IsOrdered (sym (o ∙ ap (λ i. insert es i k) p ∙ put-there k es)) (ordered-put k es a)
 insert-ordered (Err x) k es new place p o e a = subst IsOrdered (sym e) a
 
-pub inserted : (r : Result (Unit {0}) Memory) (k : Entry) (es new : List Entry) (place : ℕ) → place ≡ place_of k es → OnOk r (new ≡ insert es place k) → OnOk r (new ≡ put k es)
+pub inserted : (r : Result (Unit {0}) Memory) (k : Entry) (es new : List Entry) (place : ℕ) → place ≡ place_of k es → OnOk r (new ≡ insert es place k) →
+    OnOk r (new ≡ put k es)
 inserted (Ok x) k es new place p o = o ∙ ap (λ i. insert es i k) p ∙ put-there k es
 inserted (Err x) k es new place p o = tt
 
 -- the entry that stands at the place found
-pub taken : (k d : Entry) (es new : List Entry) (place : ℕ) → place ≡ place_of k es → place < length es → d ≡ get_or es place d → precedes k d ≡ false → new ≡ remove es place → new ≡ take_out k es
+pub taken : (k d : Entry) (es new : List Entry) (place : ℕ) → place ≡ place_of k es → place < length es → d ≡ get_or es place d → precedes k d ≡ false →
+    new ≡ remove es place → new ≡ take_out k es
 taken k d es new place p l at b is =
     is ∙ ap (remove es) p ∙ out-there k d es (omega (arith, l, p)) (subst (λ i. precedes k (get_or es i d) ≡ false) p (subst (λ x. precedes k x ≡ false) at b))
 
-pub stayed : (k d : Entry) (es : List Entry) (place : ℕ) → place ≡ place_of k es → place < length es → d ≡ get_or es place d → precedes k d ≡ true → es ≡ take_out k es
+pub stayed : (k d : Entry) (es : List Entry) (place : ℕ) → place ≡ place_of k es → place < length es → d ≡ get_or es place d → precedes k d ≡ true →
+    es ≡ take_out k es
 stayed k d es place p l at b =
     all-stay k d es (omega (arith, l, p)) (subst (λ i. precedes k (get_or es i d) ≡ true) p (subst (λ x. precedes k x ≡ true) at b))

@@ -21,7 +21,8 @@ is-itself k =
     grind (arith, p)
 
 -- entries that pass
-counts-if : (p : Entry → Bool) (e : Entry) (es : List Entry) (b : Bool) → p e ≡ b → (if b then Some e else find p es) ≡ None → (find p es ≡ None → count_by p es ≡ 0) → (if b then 1 else 0) + count_by p es ≡ 0
+counts-if : (p : Entry → Bool) (e : Entry) (es : List Entry) (b : Bool) → p e ≡ b → (if b then Some e else find p es) ≡ None →
+    (find p es ≡ None → count_by p es ≡ 0) → (if b then 1 else 0) + count_by p es ≡ 0
 counts-if p e es true q h r = absurd (cc)
 counts-if p e es false q h r = omega (arith, r h)
 
@@ -29,7 +30,8 @@ counts-none : (p : Entry → Bool) (es : List Entry) → find p es ≡ None → 
 counts-none p [] h = refl
 counts-none p (e ∷ es) h = count-cons p e es ∙ counts-if p e es (p e) refl h (counts-none p es)
 
-finds-if : (p : Entry → Bool) (e : Entry) (es : List Entry) (b : Bool) → (if b then 1 else 0) + count_by p es ≡ 0 → (count_by p es ≡ 0 → find p es ≡ None) → (if b then Some e else find p es) ≡ None
+finds-if : (p : Entry → Bool) (e : Entry) (es : List Entry) (b : Bool) → (if b then 1 else 0) + count_by p es ≡ 0 → (count_by p es ≡ 0 → find p es ≡ None) →
+    (if b then Some e else find p es) ≡ None
 finds-if p e es true h r = absurd (omega (arith, h))
 finds-if p e es false h r = r (omega (arith, h))
 
@@ -38,7 +40,8 @@ finds-none p [] h = refl
 finds-none p (e ∷ es) h = finds-if p e es (p e) (sym (count-cons p e es) ∙ h) (finds-none p es)
 
 -- the one that is found passes, and is there
-passes-if : (p : Entry → Bool) (e a : Entry) (es : List Entry) (b : Bool) → p e ≡ b → (if b then Some e else find p es) ≡ Some a → (find p es ≡ Some a → p a ≡ true) → p a ≡ true
+passes-if : (p : Entry → Bool) (e a : Entry) (es : List Entry) (b : Bool) → p e ≡ b → (if b then Some e else find p es) ≡ Some a →
+    (find p es ≡ Some a → p a ≡ true) → p a ≡ true
 passes-if p e a es true q h r = let s : e ≡ a = cc in subst (λ x. p x ≡ true) s q
 passes-if p e a es false q h r = r h
 
@@ -46,7 +49,8 @@ passes : (p : Entry → Bool) (a : Entry) (es : List Entry) → find p es ≡ So
 passes p a [] h = absurd (cc)
 passes p a (e ∷ es) h = passes-if p e a es (p e) refl h (passes p a es)
 
-there-if : (p : Entry → Bool) (e a : Entry) (es : List Entry) (b : Bool) → (if b then Some e else find p es) ≡ Some a → (find p es ≡ Some a → 0 < times a es) → 0 < (if is_same a e then 1 else 0) + times a es
+there-if : (p : Entry → Bool) (e a : Entry) (es : List Entry) (b : Bool) → (if b then Some e else find p es) ≡ Some a →
+    (find p es ≡ Some a → 0 < times a es) → 0 < (if is_same a e then 1 else 0) + times a es
 there-if p e a es true h r =
     let s : e ≡ a = cc in
     let o : is_same a e ≡ true = subst (λ x. is_same x e ≡ true) s (is-itself e) in
@@ -67,7 +71,9 @@ all-member P k (e ∷ es) a l =
       | false ↦ λ q m. all-member P k es a.1 (omega (arith, m))
     ] refl (subst (λ n. 0 < n) c l)
 
-first-if : (before : Entry → Entry → Bool) (p : Entry → Bool) (e a k : Entry) (es : List Entry) (b : Bool) → ((x : Entry) → before x x ≡ false) → p e ≡ b → (if b then Some e else find p es) ≡ Some a → AreSorted before (e ∷ es) → 0 < times k (e ∷ es) → p k ≡ true → (find p es ≡ Some a → 0 < times k es → before k a ≡ false) → before k a ≡ false
+first-if : (before : Entry → Entry → Bool) (p : Entry → Bool) (e a k : Entry) (es : List Entry) (b : Bool) → ((x : Entry) → before x x ≡ false) → p e ≡ b →
+    (if b then Some e else find p es) ≡ Some a → AreSorted before (e ∷ es) → 0 < times k (e ∷ es) → p k ≡ true →
+    (find p es ≡ Some a → 0 < times k es → before k a ≡ false) → before k a ≡ false
 first-if before p e a k es true self q h s l t r =
     let i : e ≡ a = cc in
     subst (λ x. before k x ≡ false) i (all-member (λ x. before x e ≡ false) k (e ∷ es) (self e, s.0) l)
@@ -81,7 +87,8 @@ first-if before p e a k es false self q h s l t r =
       | false ↦ λ i m. r h (omega (arith, m))
     ] refl (subst (λ n. 0 < n) c l)
 
-first : (before : Entry → Entry → Bool) (p : Entry → Bool) (a k : Entry) (es : List Entry) → ((x : Entry) → before x x ≡ false) → find p es ≡ Some a → AreSorted before es → 0 < times k es → p k ≡ true → before k a ≡ false
+first : (before : Entry → Entry → Bool) (p : Entry → Bool) (a k : Entry) (es : List Entry) → ((x : Entry) → before x x ≡ false) → find p es ≡ Some a →
+    AreSorted before es → 0 < times k es → p k ≡ true → before k a ≡ false
 first before p a k [] self h s l t = absurd (cc)
 first before p a k (e ∷ es) self h s l t =
     first-if before p e a k es (p e) self refl h s l t (λ g m. first before p a k es self g s.1 m t)
@@ -90,7 +97,8 @@ first before p a k (e ∷ es) self h s l t =
 below : ℕ → List Entry → ℕ
 below n es = count_by (λ x. nat_lt x.number n) es
 
-ranks-if : (n m : ℕ) (k e : Entry) (es : List Entry) → k.number ≡ n → n < m → (if is_same k e then 1 else 0) + (if nat_lt e.number n then 1 else 0) ≤ (if nat_lt e.number m then 1 else 0)
+ranks-if : (n m : ℕ) (k e : Entry) (es : List Entry) → k.number ≡ n → n < m →
+    (if is_same k e then 1 else 0) + (if nat_lt e.number n then 1 else 0) ≤ (if nat_lt e.number m then 1 else 0)
 ranks-if n m k e es i l =
     elim (is_same k e) as (λ b. is_same k e ≡ b → (if b then 1 else 0) + (if nat_lt e.number n then 1 else 0) ≤ (if nat_lt e.number m then 1 else 0)) [
       | true ↦
@@ -110,7 +118,8 @@ ranks-if n m k e es i l =
           ] refl
     ] refl
 
-ranks : (n m : ℕ) (k : Entry) (es : List Entry) → k.number ≡ n → n < m → times k es + count_by (λ x. nat_lt x.number n) es ≤ count_by (λ x. nat_lt x.number m) es
+ranks : (n m : ℕ) (k : Entry) (es : List Entry) → k.number ≡ n → n < m →
+    times k es + count_by (λ x. nat_lt x.number n) es ≤ count_by (λ x. nat_lt x.number m) es
 ranks n m k [] i l = omega arith
 ranks n m k (e ∷ es) i l =
     let a = count-cons (is_same k) e es in
@@ -132,7 +141,8 @@ equal-ranks es a b rank l p q =
       | false ↦ λ t. grind (arith, nat_tests, t)
     ] refl
 
-both-found : (es fs : List Entry) (rank : ℕ) (o q : Option Entry) → IsPlaced es → IsOrdered fs → AreSame es fs → find (λ e. rank_of fs e == rank) fs ≡ o → find (λ e. rank_of fs e == rank) es ≡ q → o ≡ q
+both-found : (es fs : List Entry) (rank : ℕ) (o q : Option Entry) → IsPlaced es → IsOrdered fs → AreSame es fs → find (λ e. rank_of fs e == rank) fs ≡ o →
+    find (λ e. rank_of fs e == rank) es ≡ q → o ≡ q
 both-found es fs rank None q placed ordered same f g =
     let p = λ (e : Entry). rank_of fs e == rank in
     let n = same (λ x. if p x then 1 else 0) ∙ counts-none p fs f in

@@ -24,7 +24,8 @@ shares-at a b key ha hb =
     test-of-eq _ _ (rw (← ea, ← eb) (ma ∙ sym mb))
 
 -- the longer name's bits are a key of both
-longer-bits : (a b : Name) → a.depth ≤ b.depth → b.depth ≤ 16 → a.bits < 2 ^ a.depth → b.bits < 2 ^ b.depth → IsTrue (overlaps a b) → (b.bits < 2 ^ 64) × IsTrue (covers a b.bits) × IsTrue (covers b b.bits)
+longer-bits : (a b : Name) → a.depth ≤ b.depth → b.depth ≤ 16 → a.bits < 2 ^ a.depth → b.bits < 2 ^ b.depth → IsTrue (overlaps a b) →
+    (b.bits < 2 ^ 64) × IsTrue (covers a b.bits) × IsTrue (covers b b.bits)
 longer-bits a b short deep ha hb h =
     let m : min a.depth b.depth ≡ a.depth = omega arith in
     let e : a.bits % 2 ^ min a.depth b.depth ≡ b.bits % 2 ^ min a.depth b.depth = eq-of-test _ _ h in
@@ -42,4 +43,7 @@ overlaps-sym a b h =
 
 pub shares-from : (a b : Name) → a.depth ≤ 16 → b.depth ≤ 16 → a.bits < 2 ^ a.depth → b.bits < 2 ^ b.depth → IsTrue (overlaps a b) → SharesAKey a b
 shares-from a b da db ha hb h =
-    elim (leb a.depth b.depth) as (λ t. leb a.depth b.depth ≡ t → SharesAKey a b) [ true ↦ λ e. let k = longer-bits a b (grind (arith, nat_tests, e)) db ha hb h in (b.bits, k.0, k.1, k.2) | false ↦ λ e. let k = longer-bits b a (grind (arith, nat_tests, e)) da hb ha (overlaps-sym a b h) in (a.bits, k.0, k.2, k.1) ] refl
+    elim (leb a.depth b.depth) as (λ t. leb a.depth b.depth ≡ t → SharesAKey a b) [
+      | true ↦ λ e. let k = longer-bits a b (grind (arith, nat_tests, e)) db ha hb h in (b.bits, k.0, k.1, k.2)
+      | false ↦ λ e. let k = longer-bits b a (grind (arith, nat_tests, e)) da hb ha (overlaps-sym a b h) in (a.bits, k.0, k.2, k.1)
+    ] refl

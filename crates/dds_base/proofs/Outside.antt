@@ -1,5 +1,6 @@
 -- Laws of what is left, of what was written, and of the count of faults.
-use Rattle.std.proofs.Common.{◌≡◌, ℕ, ◌+◌, ◌<◌, ◌≤◌, ◌⊎◌, inl, inr, List, [], ◌++◌, length, take, drop, Option, Some, None, refl, sym, ◌∙◌, ap, append_assoc, arith, length-append, subst, nat_eq, cond}
+use Rattle.std.proofs.Common.{◌≡◌, ℕ, ◌+◌, ◌<◌, ◌≤◌, ◌⊎◌, inl, inr, List, [], ◌++◌, length, take, drop, Option, Some, None, refl, sym, ◌∙◌}
+use Rattle.std.proofs.Common.{ap, append_assoc, arith, length-append, subst, nat_eq, cond}
 use Rattle.std.proofs.lemmas.List.{append-nil, take-append-drop}
 use Rattle.std.proofs.lemmas.List.Sums.{sum_by-append}
 use Rattle.std.proofs.Math.Seq.{take-add}
@@ -47,7 +48,8 @@ pub line_ends-append : (xs ys : List ℕ) → line_ends (xs ++ ys) ≡ line_ends
 line_ends-append xs ys = sum_by-append (λ byte. cond (nat_eq byte 10) 1 0) xs ys
 
 -- what was written up to a place, and a beginning of the rest
-pub added-at : (a b c : Option (List ℕ)) (text piece : List ℕ) (at n : ℕ) → piece ≡ drop at text → Added a (take at text) b → Added b (take n piece) c → Added a (take (at + n) text) c
+pub added-at : (a b c : Option (List ℕ)) (text piece : List ℕ) (at n : ℕ) → piece ≡ drop at text → Added a (take at text) b → Added b (take n piece) c →
+    Added a (take (at + n) text) c
 added-at a b c text piece at n e p q =
     let h : take at text ++ take n piece ≡ take (at + n) text = ap (λ xs. take at text ++ take n xs) e ∙ sym (take-add at n text) in
     subst (λ xs. Added a xs c) h (added-more a b c (take at text) (take n piece) p q)

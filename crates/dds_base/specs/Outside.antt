@@ -1,5 +1,6 @@
 -- What the calls of a source and a sink do to what is left, to what was written and to the count of faults.
-use Rattle.std.specs.Prelude.{◌≡◌, ℕ, ◌+◌, ◌-◌, ◌^◌, ◌<◌, ◌≤◌, ◌⊎◌, Bool, ◌&&◌, ◌||◌, min, List, [], ◌++◌, length, count_by, nat_eq, nat_lt, nat_le, None, Some, Option}
+use Rattle.std.specs.Prelude.{◌≡◌, ℕ, ◌+◌, ◌-◌, ◌^◌, ◌<◌, ◌≤◌, ◌⊎◌, Bool, ◌&&◌, ◌||◌, min, List, [], ◌++◌, length, count_by, nat_eq, nat_lt}
+use Rattle.std.specs.Prelude.{nat_le, None, Some, Option}
 use Rattle.std.specs.List.{list_any}
 
 -- the bytes were taken from the front of what was left; whether it is told doesn't change

@@ -1,7 +1,8 @@
 //! What a brick does for the calls of libraries.
 
 ghost use Rattle.std.specs.Prelude.{◌≡◌, [], ◌∷◌, IfOk, OnOk, Some, None, option_copied};
-ghost use Rattle.dds_brick_rows.specs.Calls.{answer_of, got, get_row, trim, voted, prepare_row, flag_at, noted, applied, commit_found, commit_row, aborted, abort_row, map_ask_row};
+ghost use Rattle.dds_brick_rows.specs.Calls.{answer_of, got, get_row, trim, voted, prepare_row, flag_at, noted, applied, commit_found};
+ghost use Rattle.dds_brick_rows.specs.Calls.{commit_row, aborted, abort_row, map_ask_row};
 
 use crate::refusal::{get_refusal, update_denial};
 use dds_base::items::Items;

@@ -5,7 +5,9 @@ ghost use Rattle.dds_base.specs.Number.{StampOf};
 ghost use Rattle.std.specs.FinMap.{keys, contains_key};
 ghost use Rattle.dds_base.specs.Name.{covers};
 ghost use Rattle.dds_base.specs.Op.{the_key};
-ghost use Rattle.dds_brick_rows.specs.Refusal.{joins_key, joins_over, stale_against, is_locked, get_refusal, update_refusal, pairs_under, is_put, is_new_under, is_full, is_full_at, has_no_room, update_denial, is_found, lease_refusal};
+ghost use Rattle.dds_brick_rows.specs.Refusal.{joins_key, joins_over, stale_against, is_locked, get_refusal, update_refusal, pairs_under};
+ghost use Rattle.dds_brick_rows.specs.Refusal.{is_put, is_new_under, is_full, is_full_at, has_no_room, update_denial, is_found};
+ghost use Rattle.dds_brick_rows.specs.Refusal.{lease_refusal};
 ghost use Rattle.dds_states.specs.Leaf.{leaf_for};
 
 use dds_base::leaf::Leaf;

@@ -7,7 +7,9 @@ ghost use Rattle.dds_locks.specs.Status.{status};
 ghost use Rattle.dds_letters.specs.declared.letter.Letter.TheVariants as letter;
 ghost use Rattle.dds_states.specs.Turn.{to_each, unknown_others, both, letters_out};
 ghost use Rattle.dds_brick_rows.specs.Calls.{dropped};
-ghost use Rattle.dds_brick_rows.specs.Resolution.{before, is_ready, is_commit, is_no, heard, unwaited, settled, outcome_row, verdict, decides, resolves_on, started, resolve, is_of, is_resolved, defers, help_row, query_row, is_awaited, with_news, resolving_goes, resolvings_go, all_hear, status_row};
+ghost use Rattle.dds_brick_rows.specs.Resolution.{before, is_ready, is_commit, is_no, heard, unwaited, settled, outcome_row, verdict};
+ghost use Rattle.dds_brick_rows.specs.Resolution.{decides, resolves_on, started, resolve, is_of, is_resolved, defers, help_row, query_row};
+ghost use Rattle.dds_brick_rows.specs.Resolution.{is_awaited, with_news, resolving_goes, resolvings_go, all_hear, status_row};
 
 use crate::calls::applied;
 use dds_base::brick_list::BrickList;

@@ -1,5 +1,6 @@
 -- Laws of the pages that a cache holds.
-use Rattle.std.proofs.Common.{ℕ, zero, suc, ◌≡◌, ◌+◌, ◌-◌, ◌<◌, ◌≤◌, Bool, true, false, cond, List, [], ◌∷◌, length, take, drop, nat_eq, Option, Some, None, refl, sym, ◌∙◌, ap, subst, arith, is_some, length-take}
+use Rattle.std.proofs.Common.{ℕ, zero, suc, ◌≡◌, ◌+◌, ◌-◌, ◌<◌, ◌≤◌, Bool, true, false, cond, List, [], ◌∷◌, length, take, drop, nat_eq}
+use Rattle.std.proofs.Common.{Option, Some, None, refl, sym, ◌∙◌, ap, subst, arith, is_some, length-take}
 use Rattle.std.proofs.lemmas.Bool.Decides.{nat_tests}
 use Rattle.std.specs.Map.{lookup_entry, remove_entry}
 use Rattle.std.specs.Option.{option_map_or}
@@ -69,13 +70,15 @@ promoted-seen kept n bytes h = ap (λ o. option_map_or (λ e. e ∷ remove_entry
 -- taking out a page that is held makes the list shorter
 pub length-remove-held : (kept : Kept) (n : ℕ) (bytes : List ℕ) → held kept n ≡ Some bytes → length (remove_entry (nat_eq n) kept) + 1 ≡ length kept
 length-remove-held [] n bytes h = cc
-length-remove-held (e ∷ es) n bytes h = (elim (nat_eq n e.0) as (λ b. nat_eq n e.0 ≡ b → length (cond b es (e ∷ remove_entry (nat_eq n) es)) + 1 ≡ length (e ∷ es)) [
-  | true ↦ λ t. omega arith
-  | false ↦ λ t. let rest = length-remove-held es n bytes (rw t at h) in omega arith
-]) refl
+length-remove-held (e ∷ es) n bytes h = (elim (nat_eq n e.0) as (λ b. nat_eq n e.0 ≡ b →
+    length (cond b es (e ∷ remove_entry (nat_eq n) es)) + 1 ≡ length (e ∷ es)) [
+      | true ↦ λ t. omega arith
+      | false ↦ λ t. let rest = length-remove-held es n bytes (rw t at h) in omega arith
+    ]) refl
 
 -- a page that is held takes no further place when it is used
-pub use-held : (kept : Kept) (capacity n : ℕ) (bytes now : List ℕ) → held kept n ≡ Some bytes → length kept ≤ capacity → after_use capacity kept n now ≡ first_used kept n now
+pub use-held : (kept : Kept) (capacity n : ℕ) (bytes now : List ℕ) → held kept n ≡ Some bytes → length kept ≤ capacity →
+    after_use capacity kept n now ≡ first_used kept n now
 use-held kept capacity n bytes now h within =
     let e = length-remove-held kept n bytes h in
     take_all capacity (first_used kept n now) (omega arith)
@@ -89,10 +92,11 @@ held-remove (e ∷ es) n q d = (elim (nat_eq n e.0) as (λ b. nat_eq n e.0 ≡ b
 ]) refl
 
 held-first : (kept : Kept) (n q : ℕ) (bytes : List ℕ) → held (first_used kept n bytes) q ≡ cond (nat_eq q n) (Some bytes) (held kept q)
-held-first kept n q bytes = (elim (nat_eq q n) as (λ b. nat_eq q n ≡ b → cond b (Some bytes) (held (remove_entry (nat_eq n) kept) q) ≡ cond b (Some bytes) (held kept q)) [
-  | true ↦ λ t. refl
-  | false ↦ λ t. held-remove kept n q t
-]) refl
+held-first kept n q bytes = (elim (nat_eq q n) as (λ b. nat_eq q n ≡ b →
+    cond b (Some bytes) (held (remove_entry (nat_eq n) kept) q) ≡ cond b (Some bytes) (held kept q)) [
+      | true ↦ λ t. refl
+      | false ↦ λ t. held-remove kept n q t
+    ]) refl
 
 -- what the first pages hold, all hold
 held-take : (m : ℕ) (kept : Kept) (q : ℕ) (bytes : List ℕ) → held (take m kept) q ≡ Some bytes → held kept q ≡ Some bytes
@@ -103,20 +107,26 @@ held-take (suc m) (e ∷ es) q bytes h = (elim (nat_eq q e.0) as (λ b. nat_eq q
   | false ↦ λ t. held-take m es q bytes (rw t at h)
 ]) refl
 
-read-by : (a : Pages) (kept : Kept) (n q : ℕ) (bytes page : List ℕ) → IsOfDisk (Some a) kept → bytes ≡ page_at a n → cond (nat_eq q n) (Some bytes) (held kept q) ≡ Some page → page ≡ page_at a q
+read-by : (a : Pages) (kept : Kept) (n q : ℕ) (bytes page : List ℕ) → IsOfDisk (Some a) kept → bytes ≡ page_at a n →
+    cond (nat_eq q n) (Some bytes) (held kept q) ≡ Some page → page ≡ page_at a q
 read-by a kept n q bytes page h is = (elim (nat_eq q n) as (λ b. nat_eq q n ≡ b → cond b (Some bytes) (held kept q) ≡ Some page → page ≡ page_at a q) [
   | true ↦ λ t e. let same : bytes ≡ page = cc in sym same ∙ is ∙ ap (page_at a) (key-is q n t)
   | false ↦ λ t e. h q page e
 ]) refl
 
-write-by : (a : Pages) (kept : Kept) (n q : ℕ) (bytes page : List ℕ) → IsOfDisk (Some a) kept → cond (nat_eq q n) (Some bytes) (held kept q) ≡ Some page → page ≡ page_at (insert a n bytes) q
-write-by a kept n q bytes page h = (elim (nat_eq q n) as (λ b. nat_eq q n ≡ b → cond b (Some bytes) (held kept q) ≡ Some page → page ≡ page_at (insert a n bytes) q) [
-  | true ↦ λ t e. let same : bytes ≡ page = cc in let k : nat_eq n q ≡ true = grind (arith, nat_tests) in sym same ∙ sym (page_at-insert a n bytes q ∙ ap (λ b. cond b bytes (page_at a q)) k)
-  | false ↦ λ t e. let k : nat_eq n q ≡ false = grind (arith, nat_tests) in h q page e ∙ sym (page_at-insert a n bytes q ∙ ap (λ b. cond b bytes (page_at a q)) k)
-]) refl
+write-by : (a : Pages) (kept : Kept) (n q : ℕ) (bytes page : List ℕ) → IsOfDisk (Some a) kept → cond (nat_eq q n) (Some bytes) (held kept q) ≡ Some page →
+    page ≡ page_at (insert a n bytes) q
+write-by a kept n q bytes page h = (elim (nat_eq q n) as (λ b. nat_eq q n ≡ b → cond b (Some bytes) (held kept q) ≡ Some page →
+    page ≡ page_at (insert a n bytes) q) [
+      | true ↦ λ t e. let same : bytes ≡ page = cc in let k : nat_eq n q ≡ true = grind (arith, nat_tests) in
+          sym same ∙ sym (page_at-insert a n bytes q ∙ ap (λ b. cond b bytes (page_at a q)) k)
+      | false ↦ λ t e. let k : nat_eq n q ≡ false = grind (arith, nat_tests) in
+          h q page e ∙ sym (page_at-insert a n bytes q ∙ ap (λ b. cond b bytes (page_at a q)) k)
+    ]) refl
 
 -- no page is held that isn't the disk's: after a page was read
-pub of-disk-read : (a b : Option Pages) (kept : Kept) (capacity n : ℕ) (bytes : List ℕ) → IsOfDisk a kept → ReadPage a n bytes b → IsOfDisk b (after_use capacity kept n bytes)
+pub of-disk-read : (a b : Option Pages) (kept : Kept) (capacity n : ℕ) (bytes : List ℕ) → IsOfDisk a kept → ReadPage a n bytes b →
+    IsOfDisk b (after_use capacity kept n bytes)
 of-disk-read None None kept capacity n bytes h r = tt
 of-disk-read None (Some b) kept capacity n bytes h r = absurd r
 of-disk-read (Some a) None kept capacity n bytes h r = absurd r
@@ -126,7 +136,8 @@ of-disk-read (Some a) (Some b) kept capacity n bytes h r = λ q page is.
     subst (λ (p : Pages). page ≡ page_at p q) (sym r.1) (read-by a kept n q bytes page h r.0 (sym was ∙ found))
 
 -- and after a page was written
-pub of-disk-write : (a b : Option Pages) (kept : Kept) (capacity n : ℕ) (bytes : List ℕ) → IsOfDisk a kept → WrotePage a n bytes b → IsOfDisk b (after_use capacity kept n bytes)
+pub of-disk-write : (a b : Option Pages) (kept : Kept) (capacity n : ℕ) (bytes : List ℕ) → IsOfDisk a kept → WrotePage a n bytes b →
+    IsOfDisk b (after_use capacity kept n bytes)
 of-disk-write None None kept capacity n bytes h w = tt
 of-disk-write None (Some b) kept capacity n bytes h w = absurd w
 of-disk-write (Some a) None kept capacity n bytes h w = absurd w
@@ -166,18 +177,22 @@ pub first-within : {a : Option Pages} {p : Pages-held} {capacity : ℕ} (q : Pag
 first-within {p = p} q n bytes s e = let h = length-remove p.entries n in rw e (omega (arith, h, s.within))
 
 -- what is held after a page was put first and the last ones left
-pub trimmed : (p q r : Pages-held) (capacity n : ℕ) (copy bytes : List ℕ) → q ≡ lru_cache (first_used p.entries n copy) p.cap → r ≡ lru_cache (take capacity q.entries) q.cap → copy ≡ bytes →
+pub trimmed : (p q r : Pages-held) (capacity n : ℕ) (copy bytes : List ℕ) → q ≡ lru_cache (first_used p.entries n copy) p.cap →
+    r ≡ lru_cache (take capacity q.entries) q.cap → copy ≡ bytes →
     r ≡ lru_cache (after_use capacity p.entries n bytes) p.cap
 trimmed p q r capacity n copy bytes h e same = e ∙ rw (h, same) refl
 
 -- what is held after a page that was held was put first with other bytes
-pub used-again : (a : Option Pages) (p q : Pages-held) (capacity n : ℕ) (copy bytes : List ℕ) → IsSound a p.entries p.cap capacity → q ≡ lru_cache (first_used p.entries n copy) p.cap → copy ≡ bytes →
+pub used-again : (a : Option Pages) (p q : Pages-held) (capacity n : ℕ) (copy bytes : List ℕ) → IsSound a p.entries p.cap capacity →
+    q ≡ lru_cache (first_used p.entries n copy) p.cap → copy ≡ bytes →
     is_some (held p.entries n) ≡ true → q ≡ lru_cache (after_use capacity p.entries n bytes) p.cap
 used-again a p q capacity n copy bytes s h same there =
-    h ∙ ap (λ (kept : Kept). lru_cache kept p.cap) (ap (first_used p.entries n) same ∙ use-again p.entries capacity n bytes (held p.entries n) refl there s.within)
+    h ∙ ap (λ (kept : Kept). lru_cache kept p.cap) (ap (first_used p.entries n) same
+    ∙ use-again p.entries capacity n bytes (held p.entries n) refl there s.within)
 
 -- the page that was put first was taken back
-pub as-before : (p q r : Pages-held) (n : ℕ) (bytes : List ℕ) → is_some (held p.entries n) ≡ false → q ≡ lru_cache (first_used p.entries n bytes) p.cap → r ≡ lru_cache (drop 1 q.entries) q.cap → r ≡ p
+pub as-before : (p q r : Pages-held) (n : ℕ) (bytes : List ℕ) → is_some (held p.entries n) ≡ false → q ≡ lru_cache (first_used p.entries n bytes) p.cap →
+    r ≡ lru_cache (drop 1 q.entries) q.cap → r ≡ p
 as-before p q r n bytes missing h e = e ∙ rw h (ap (λ (kept : Kept). lru_cache kept p.cap) (taken-back p.entries n bytes (none-held p.entries n missing)))
 
 -- the same pages told, and the same pages held
@@ -189,7 +204,8 @@ pub within-capacity : (capacity : ℕ) (kept : Kept) → length (take capacity k
 within-capacity capacity kept = let h = length-take capacity kept in omega (arith, h)
 
 -- a page was read and is held
-pub sound-read : {a : Option Pages} {p : Pages-held} {capacity : ℕ} (b : Option Pages) (q : Pages-held) (n : ℕ) (bytes : List ℕ) → IsSound a p.entries p.cap capacity →
+pub sound-read : {a : Option Pages} {p : Pages-held} {capacity : ℕ} (b : Option Pages) (q : Pages-held) (n : ℕ) (bytes : List ℕ) →
+    IsSound a p.entries p.cap capacity →
     ReadPage a n bytes b → q ≡ lru_cache (after_use capacity p.entries n bytes) p.cap → IsSound b q.entries q.cap capacity
 sound-read {a = a} {p = p} {capacity = capacity} b q n bytes s told e =
     rw e record {
@@ -201,7 +217,8 @@ sound-read {a = a} {p = p} {capacity = capacity} b q n bytes s told e =
     }
 
 -- a page was written and is held
-pub sound-write : {a : Option Pages} {p : Pages-held} {capacity : ℕ} (b : Option Pages) (q : Pages-held) (n : ℕ) (bytes : List ℕ) → IsSound a p.entries p.cap capacity →
+pub sound-write : {a : Option Pages} {p : Pages-held} {capacity : ℕ} (b : Option Pages) (q : Pages-held) (n : ℕ) (bytes : List ℕ) →
+    IsSound a p.entries p.cap capacity →
     WrotePage a n bytes b → q ≡ lru_cache (after_use capacity p.entries n bytes) p.cap → IsSound b q.entries q.cap capacity
 sound-write {a = a} {p = p} {capacity = capacity} b q n bytes s told e =
     rw e record {
@@ -213,13 +230,16 @@ sound-write {a = a} {p = p} {capacity = capacity} b q n bytes s told e =
     }
 
 -- a page that was found stands first
-pub found-used : {a : Option Pages} {p : Pages-held} {capacity : ℕ} (q : Pages-held) (n : ℕ) (bytes : List ℕ) → IsSound a p.entries p.cap capacity → held p.entries n ≡ Some bytes → q ≡ lru_cache (first_used p.entries n bytes) p.cap →
+pub found-used : {a : Option Pages} {p : Pages-held} {capacity : ℕ} (q : Pages-held) (n : ℕ) (bytes : List ℕ) → IsSound a p.entries p.cap capacity →
+    held p.entries n ≡ Some bytes → q ≡ lru_cache (first_used p.entries n bytes) p.cap →
     q ≡ lru_cache (after_use capacity p.entries n bytes) p.cap
-found-used {p = p} {capacity = capacity} q n bytes s is e = e ∙ ap (λ (kept : Kept). lru_cache kept p.cap) (sym (use-held p.entries capacity n bytes bytes is s.within))
+found-used {p = p} {capacity = capacity} q n bytes s is e = e
+    ∙ ap (λ (kept : Kept). lru_cache kept p.cap) (sym (use-held p.entries capacity n bytes bytes is s.within))
 
 -- a look at the pages held keeps a cache sound, whether it finds the page or not
 pub sound-look : {a : Option Pages} {p : Pages-held} {capacity : ℕ} (q : Pages-held) (n : ℕ) (bytes : List ℕ) (b : Bool) → IsSound a p.entries p.cap capacity →
-    (b ≡ true → (held p.entries n ≡ Some bytes) × (q ≡ lru_cache (first_used p.entries n bytes) p.cap)) → (b ≡ false → (held p.entries n ≡ None) × (q ≡ p)) → IsSound a q.entries q.cap capacity
+    (b ≡ true → (held p.entries n ≡ Some bytes) × (q ≡ lru_cache (first_used p.entries n bytes) p.cap)) → (b ≡ false → (held p.entries n ≡ None) × (q ≡ p)) →
+    IsSound a q.entries q.cap capacity
 sound-look {a = a} {p = p} {capacity = capacity} q n bytes true s found missing =
     let h = found refl in
     sound-read a q n bytes s (held-is-read a p.entries n bytes s.of_disk h.0) (found-used q n bytes s h.0 h.1)

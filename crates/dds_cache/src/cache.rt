@@ -77,7 +77,8 @@ impl<D: Disk> Cache<D> {
 
     /// Copies the page to `into` where it is held, with no call of the disk.
     fn find(&mut self, page: u64, into: &mut [u8; 4_096]) -> bool
-        ensures found { IsTrue result → (held self.old.kept page ≡ Some into.new) × (self.new ≡ record self.old { kept = after_use self.old.capacity self.old.kept page into.new }) }
+        ensures found { IsTrue result → (held self.old.kept page ≡ Some into.new)
+            × (self.new ≡ record self.old { kept = after_use self.old.capacity self.old.kept page into.new }) }
         ensures gives { IsTrue result → ReadPage (D.pages self.old.disk) page into.new (D.pages self.old.disk) }
         ensures missing { result ≡ false → (held self.old.kept page ≡ None) × (self.new ≡ self.old) }
     {

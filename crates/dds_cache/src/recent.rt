@@ -48,7 +48,8 @@ pub(crate) fn take_back(pages: &mut LruCache<u64, Page>)
 
 /// Copies the page to `into`, where it is held, and puts it first.
 pub(crate) fn look(pages: &mut LruCache<u64, Page>, number: u64, into: &mut [u8; 4_096]) -> bool
-    ensures found { IsTrue result → (held pages.old.entries number ≡ Some into.new) × (pages.new ≡ lru_cache (first_used pages.old.entries number into.new) pages.old.cap) }
+    ensures found { IsTrue result → (held pages.old.entries number ≡ Some into.new)
+        × (pages.new ≡ lru_cache (first_used pages.old.entries number into.new) pages.old.cap) }
     ensures missing { result ≡ false → (held pages.old.entries number ≡ None) × (pages.new ≡ pages.old) }
 {
     match pages.peek(&number) {

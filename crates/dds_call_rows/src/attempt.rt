@@ -2,7 +2,8 @@
 
 ghost use Rattle.std.specs.Prelude.{◌≡◌, ◌<◌, [], ◌∷◌, ◌++◌, IfOk, OnOk, Some, None, length, min, slice_index};
 ghost use Rattle.dds_states.specs.Turn.{unknown};
-ghost use Rattle.dds_call_rows.specs.Library.{replies, stays, behind, next_txn, counted, below, live_bricks, retried, asks, ask, got_from, get_begins, update_begins, attempt_begins, begins_with, begins_at, begin, adopts, told_all};
+ghost use Rattle.dds_call_rows.specs.Library.{replies, stays, behind, next_txn, counted, below, live_bricks, retried, asks, ask, got_from};
+ghost use Rattle.dds_call_rows.specs.Library.{get_begins, update_begins, attempt_begins, begins_with, begins_at, begin, adopts, told_all};
 
 use dds_base::leaf::Leaf;
 use dds_base::memory::Memory;

@@ -3,7 +3,8 @@
 ghost use Rattle.std.specs.Prelude.{◌≡◌, ◌==◌, ◌++◌, [], ◌∷◌, IfOk, OnOk, Some, None};
 ghost use Rattle.std.specs.List.{list_all};
 ghost use Rattle.dds_base.specs.NodeSet.{has_node};
-ghost use Rattle.dds_call_rows.specs.Library.{stays, got_with, got_in, commits, prepared_on, aborts, vote_counted, vote_in, first_flag, applied_on, applied_in, aborted_on, aborted_in, newer_of, newest_of, told_on, told_in};
+ghost use Rattle.dds_call_rows.specs.Library.{stays, got_with, got_in, commits, prepared_on, aborts, vote_counted, vote_in, first_flag};
+ghost use Rattle.dds_call_rows.specs.Library.{applied_on, applied_in, aborted_on, aborted_in, newer_of, newest_of, told_on, told_in};
 
 use crate::attempt::{ask, begin, go_on_with, replies, stays};
 use crate::refused::{denied, refused};

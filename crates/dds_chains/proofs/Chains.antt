@@ -1,5 +1,6 @@
 -- What the pages of a chain say.
-use Rattle.std.proofs.Common.{ℕ, zero, suc, ◌≡◌, ◌-◌, ◌^◌, ◌<◌, ◌≤◌, ◌==◌, cond, Bool, true, false, List, [], ◌∷◌, ◌++◌, length, map, take, drop, Option, Some, refl, sym, ap, ◌∙◌, arith}
+use Rattle.std.proofs.Common.{ℕ, zero, suc, ◌≡◌, ◌-◌, ◌^◌, ◌<◌, ◌≤◌, ◌==◌, cond, Bool, true, false, List, [], ◌∷◌, ◌++◌, length, map, take}
+use Rattle.std.proofs.Common.{drop, Option, Some, refl, sym, ap, ◌∙◌, arith}
 use Rattle.std.proofs.lemmas.List.{take-append-drop, length-take}
 use Rattle.std.proofs.lemmas.Bool.Decides.{nat_tests}
 use Rattle.dds_disk.specs.Pages.{Pages, page_at}
@@ -9,7 +10,8 @@ use Rattle.dds_pages.specs.declared.bucket.Held.{Held}
 use Rattle.dds_pages.specs.declared.bucket.Held.TheVariants.{Here, Chain}
 use Rattle.dds_chains.specs.Content.{bytes_then, chain_bytes, whole, value_in, pairs_then, chain_pairs}
 use Rattle.dds_pages.specs.Said.{bucket_in, overflow_in}
-use Rattle.dds_chains.specs.Index.{times, slot_uses, chain_uses, first_page, first_number, IsSpread, IsPlaced, IsStored, IsChain, first_value, slot_value, found}
+use Rattle.dds_chains.specs.Index.{times, slot_uses, chain_uses, first_page, first_number, IsSpread, IsPlaced, IsStored, IsChain}
+use Rattle.dds_chains.specs.Index.{first_value, slot_value, found}
 use Rattle.dds_chains.specs.declared.table.Slot.{Slot}
 use Rattle.dds_chains.proofs.Uses.{same-self}
 use Rattle.dds_pages.proofs.ReadBack.{bucket-back, overflow-back}
@@ -71,7 +73,8 @@ spread-bytes a (p ∷ ps) bytes (suc k) h l =
     let back = overflow-back (take 4080 bytes) (first_number ps) (first-number-small a ps (drop 4080 bytes) h.3) (omega (arith, h.1, m)) (omega (arith, m)) in
     let rest = spread-bytes a ps (drop 4080 bytes) k h.3 (omega arith) in
     let said : bytes_then (overflow_in (page_at a p)) (chain_bytes k a) ≡ bytes =
-    ap (λ (x : List ℕ). bytes_then (overflow_in x) (chain_bytes k a)) h.0 ∙ ap (λ (x : Option Overflow). bytes_then x (chain_bytes k a)) back ∙ ap (λ (x : List ℕ). take 4080 bytes ++ x) rest ∙ take-append-drop 4080 bytes in
+    ap (λ (x : List ℕ). bytes_then (overflow_in x) (chain_bytes k a)) h.0 ∙ ap (λ (x : Option Overflow). bytes_then x (chain_bytes k a)) back
+    ∙ ap (λ (x : List ℕ). take 4080 bytes ++ x) rest ∙ take-append-drop 4080 bytes in
     rw t said
 
 same-length : (n : ℕ) → (n == n) ≡ true
@@ -85,7 +88,8 @@ placed-value a (Chain len first) over bytes h =
     ap (λ (x : List ℕ). whole len x) c ∙ ap (λ (n : ℕ). whole n bytes) h.0 ∙ ap (λ (t : Bool). cond t bytes []) (same-length (length bytes))
 
 -- what a slot's page says
-pub stored-page : (a : Pages) (slot : Slot) (next : ℕ) (h : IsStored a slot next) → next < 2 ^ 64 → bucket_in (page_at a slot.page) ≡ Some (record { pairs = record { key = slot.key; held = h.held } ∷ []; next = next })
+pub stored-page : (a : Pages) (slot : Slot) (next : ℕ) (h : IsStored a slot next) → next < 2 ^ 64 →
+    bucket_in (page_at a slot.page) ≡ Some (record { pairs = record { key = slot.key; held = h.held } ∷ []; next = next })
 stored-page a slot next h n = ap bucket_in h.page ∙ bucket-back slot.key next h.held h.key n h.lawful
 
 pub stored-value : (a : Pages) (slot : Slot) (next : ℕ) (h : IsStored a slot next) → next < 2 ^ 64 → slot_value a slot ≡ h.value
@@ -112,7 +116,8 @@ chain-pairs a (s ∷ ss) (suc k) h l =
     rw t said
 
 -- the values of pages that didn't change
-pub value-kept : (a b : Pages) (slot : Slot) (next : ℕ) → IsStored a slot next → next < 2 ^ 64 → Kept a b (λ n. slot_uses n slot) → slot_value b slot ≡ slot_value a slot
+pub value-kept : (a b : Pages) (slot : Slot) (next : ℕ) → IsStored a slot next → next < 2 ^ 64 → Kept a b (λ n. slot_uses n slot) →
+    slot_value b slot ≡ slot_value a slot
 unfolding stored-kept
 value-kept a b slot next h n k = stored-value b slot next (stored-kept a b slot next h k) n ∙ sym (stored-value a slot next h n)
 

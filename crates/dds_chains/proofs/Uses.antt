@@ -1,5 +1,6 @@
 -- Counting how often pages are used.
-use Rattle.std.proofs.Common.{ℕ, zero, suc, ◌≡◌, ◌+◌, ◌<◌, ◌≤◌, ◌≢◌, if◌then◌else◌, List, [], ◌∷◌, ◌++◌, length, get_or, set, nat_le, Option, Some, None, refl, sym, ◌∙◌, arith}
+use Rattle.std.proofs.Common.{ℕ, zero, suc, ◌≡◌, ◌+◌, ◌<◌, ◌≤◌, ◌≢◌, if◌then◌else◌, List, [], ◌∷◌, ◌++◌, length, get_or, set, nat_le}
+use Rattle.std.proofs.Common.{Option, Some, None, refl, sym, ◌∙◌, arith}
 use Rattle.std.proofs.lemmas.Bool.Decides.{nat_tests}
 use Rattle.std.proofs.lemmas.List.{append-nil}
 use Rattle.std.specs.Option.{option_to_list}
@@ -22,7 +23,8 @@ pub give-free : (q page fresh : ℕ) (free now : List ℕ) → now ≡ free ++ p
 give-free q page fresh free now e = sym (take-free q page fresh free now e)
 
 -- a page that was never in use is handed out
-pub take-fresh : (q page fresh next : ℕ) (free now : List ℕ) → now ≡ free → next ≡ fresh + 1 → page ≡ fresh → vacant q now next + same q page ≡ vacant q free fresh
+pub take-fresh : (q page fresh next : ℕ) (free now : List ℕ) → now ≡ free → next ≡ fresh + 1 → page ≡ fresh →
+    vacant q now next + same q page ≡ vacant q free fresh
 take-fresh q page fresh next free now e f g = let h = from-next q fresh in rw (e, f, g) (omega (arith, h))
 
 -- a page that stands in a list is counted

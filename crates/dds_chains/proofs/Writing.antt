@@ -1,5 +1,6 @@
 -- Writing a value's bytes to overflow pages, the last ones first.
-use Rattle.std.proofs.Common.{ℕ, ◌≡◌, ◌+◌, ◌-◌, ◌*◌, ◌/◌, ◌^◌, ◌<◌, ◌≤◌, ◌==◌, cond, Bool, true, false, min, List, [], ◌∷◌, length, take, drop, Option, Some, None, refl, sym, ap, subst, ◌∙◌, arith, length-drop}
+use Rattle.std.proofs.Common.{ℕ, ◌≡◌, ◌+◌, ◌-◌, ◌*◌, ◌/◌, ◌^◌, ◌<◌, ◌≤◌, ◌==◌, cond, Bool, true, false, min, List, [], ◌∷◌, length, take}
+use Rattle.std.proofs.Common.{drop, Option, Some, None, refl, sym, ap, subst, ◌∙◌, arith, length-drop}
 use Rattle.std.proofs.lemmas.List.{drop-drop, take_min}
 use Rattle.std.proofs.Math.ListN.{drop_of_length-le}
 use Rattle.std.proofs.lemmas.Bool.Decides.{nat_tests}
@@ -14,7 +15,8 @@ use Rattle.dds_chains.proofs.Uses.{same-self}
 use Rattle.dds_chains.proofs.Chains.{Kept, spread-kept}
 
 -- what is known while a value's bytes are written
-pub record IsWriting (told0 told : Option Pages) (free0 : List ℕ) (fresh0 : ℕ) (free : List ℕ) (fresh : ℕ) (bytes : List ℕ) (left : ℕ) (pages : List ℕ) (next : ℕ) : Type 0 where
+pub record IsWriting (told0 told : Option Pages) (free0 : List ℕ) (fresh0 : ℕ) (free : List ℕ) (fresh : ℕ) (bytes : List ℕ) (left : ℕ) (pages : List ℕ)
+    (next : ℕ) : Type 0 where
   pub within : left * 4080 < length bytes + 4080
   pub few : length pages + left ≤ 15
   pub next_is : next ≡ first_number pages
@@ -43,7 +45,8 @@ differs : (n q : ℕ) → (n == q) ≡ false → same n q ≡ 0
 differs n q h = rw h refl
 
 pub other-zero : (uses : ℕ → ℕ) (n q : ℕ) → 0 < uses n → uses q ≡ 0 → same n q ≡ 0
-other-zero uses n q used h = (elim (n == q) as (λ t. (n == q) ≡ t → same n q ≡ 0) [ true ↦ λ t. absurd (not-used uses n q used h t) | false ↦ λ t. differs n q t ]) refl
+other-zero uses n q used h = (elim (n == q) as (λ t. (n == q) ≡ t → same n q ≡ 0)
+    [ true ↦ λ t. absurd (not-used uses n q used h t) | false ↦ λ t. differs n q t ]) refl
 
 -- a page that isn't used was written
 pub kept-insert : (a : Pages) (q : ℕ) (bytes : List ℕ) (uses : ℕ → ℕ) → uses q ≡ 0 → Kept a (insert a q bytes) uses
@@ -52,7 +55,8 @@ kept-insert a q bytes uses h = λ n used. page-other a q bytes n (other-zero use
 start-within : (len : ℕ) → (len + 4080 - 1) / 4080 * 4080 < len + 4080
 start-within len = omega arith
 
-pub writing-start : (told : Option Pages) (free : List ℕ) (fresh : ℕ) (bytes : List ℕ) (left next : ℕ) (pages : List ℕ) → pages ≡ [] → left ≡ (length bytes + 4080 - 1) / 4080 → length bytes ≤ 60000 → next ≡ 2 ^ 64 - 1 →
+pub writing-start : (told : Option Pages) (free : List ℕ) (fresh : ℕ) (bytes : List ℕ) (left next : ℕ) (pages : List ℕ) → pages ≡ [] →
+    left ≡ (length bytes + 4080 - 1) / 4080 → length bytes ≤ 60000 → next ≡ 2 ^ 64 - 1 →
     IsWriting told told free fresh free fresh bytes left pages next
 writing-start told free fresh bytes left next pages none l most n = rw none record {
   within = omega arith;
@@ -71,15 +75,20 @@ chunk-is bytes start =
     ap (λ (n : ℕ). take n (drop start bytes)) e ∙ take_min 4080 (drop start bytes)
 
 -- one page more was written
-pub writing-more : (told0 told1 told2 : Option Pages) (free0 free1 free2 : List ℕ) (fresh0 fresh1 fresh2 : ℕ) (bytes chunk : List ℕ) (left was end : ℕ) (pages now : List ℕ) (next page : ℕ) →
-    IsWriting told0 told1 free0 fresh0 free1 fresh1 bytes was pages next → was ≡ left + 1 → ((n : ℕ) → vacant n free0 fresh0 ≤ 1) → ((n : ℕ) → vacant n free2 fresh2 + same n page ≡ vacant n free1 fresh1) → page < 2 ^ 64 - 1 →
-    ((a : Pages) → told1 ≡ Some a → told2 ≡ Some (insert a page (overflow_bytes (record { bytes = chunk; next = next })))) → end ≡ min (left * 4080 + 4080) (length bytes) → chunk ≡ take (end - left * 4080) (drop (left * 4080) bytes) → now ≡ page ∷ pages → (told1 ≡ None → told2 ≡ None) →
+pub writing-more : (told0 told1 told2 : Option Pages) (free0 free1 free2 : List ℕ) (fresh0 fresh1 fresh2 : ℕ) (bytes chunk : List ℕ) (left was end : ℕ)
+    (pages now : List ℕ) (next page : ℕ) →
+    IsWriting told0 told1 free0 fresh0 free1 fresh1 bytes was pages next → was ≡ left + 1 → ((n : ℕ) → vacant n free0 fresh0 ≤ 1) →
+    ((n : ℕ) → vacant n free2 fresh2 + same n page ≡ vacant n free1 fresh1) → page < 2 ^ 64 - 1 →
+    ((a : Pages) → told1 ≡ Some a → told2 ≡ Some (insert a page (overflow_bytes (record { bytes = chunk; next = next })))) →
+    end ≡ min (left * 4080 + 4080) (length bytes) → chunk ≡ take (end - left * 4080) (drop (left * 4080) bytes) → now ≡ page ∷ pages →
+    (told1 ≡ None → told2 ≡ None) →
     IsWriting told0 told2 free0 fresh0 free2 fresh2 bytes left now page
 writing-more told0 told1 told2 free0 free1 free2 fresh0 fresh1 fresh2 bytes chunk left was end pages now next page h e single number below told m c n hidden =
     let l = length-drop (left * 4080) bytes in
     let within : left * 4080 < length bytes = omega (arith, h.within) in
     let unused : times page pages ≡ 0 = omega (arith, number page, h.number page, single page, same-self page) in
-    let step : drop (was * 4080) bytes ≡ drop 4080 (drop (left * 4080) bytes) = ap (λ (i : ℕ). drop i bytes) (omega arith) ∙ sym (drop-drop 4080 (left * 4080) bytes) in
+    let step : drop (was * 4080) bytes ≡ drop 4080 (drop (left * 4080) bytes) = ap (λ (i : ℕ). drop i bytes) (omega arith)
+    ∙ sym (drop-drop 4080 (left * 4080) bytes) in
     rw n record {
       within = omega arith;
       few = omega (arith, h.few);
@@ -90,7 +99,13 @@ writing-more told0 told1 told2 free0 free1 free2 fresh0 fresh1 fresh2 bytes chun
       wrote = λ a is.
           let w = h.wrote a is in
           let new : List ℕ = overflow_bytes (record { bytes = chunk; next = next }) in
-          let same_page : page_at (insert w.b page new) page ≡ overflow_bytes (record { bytes = take 4080 (drop (left * 4080) bytes); next = first_number pages }) = page-new w.b page new ∙ (λ i. overflow_bytes (record { bytes = (c ∙ ap (λ (x : ℕ). take (x - left * 4080) (drop (left * 4080) bytes)) m ∙ chunk-is bytes (left * 4080)) i; next = h.next_is i })) in
+          let same_page : page_at (insert w.b page new) page
+          ≡ overflow_bytes (record { bytes = take 4080 (drop (left * 4080) bytes); next = first_number pages }) = page-new w.b page new
+          ∙ (λ i. overflow_bytes (record {
+            bytes =
+                (c ∙ ap (λ (x : ℕ). take (x - left * 4080) (drop (left * 4080) bytes)) m ∙ chunk-is bytes (left * 4080)) i;
+            next = h.next_is i;
+          })) in
           let rest = spread-kept w.b (insert w.b page new) pages (drop (was * 4080) bytes) w.spread (kept-insert w.b page new (λ q. times q pages) unused) in
           record {
             b = insert w.b page new;
@@ -101,18 +116,22 @@ writing-more told0 told1 told2 free0 free1 free2 fresh0 fresh1 fresh2 bytes chun
     }
 
 -- all pages were written
-pub writing-done : {told0 told : Option Pages} {free0 : List ℕ} {fresh0 : ℕ} {free : List ℕ} {fresh : ℕ} {bytes : List ℕ} {left : ℕ} {pages : List ℕ} {next : ℕ} → IsWriting told0 told free0 fresh0 free fresh bytes left pages next → left ≤ 0 →
+pub writing-done : {told0 told : Option Pages} {free0 : List ℕ} {fresh0 : ℕ} {free : List ℕ} {fresh : ℕ} {bytes : List ℕ} {left : ℕ} {pages : List ℕ}
+    {next : ℕ} → IsWriting told0 told free0 fresh0 free fresh bytes left pages next → left ≤ 0 →
     (a : Pages) → told0 ≡ Some a → WroteChain a free0 fresh0 told pages bytes
 writing-done {told = told} {free0 = free0} {fresh0 = fresh0} {bytes = bytes} {left = left} {pages = pages} h none a is =
     let e : left * 4080 ≡ 0 = omega arith in
     subst (λ (n : ℕ). WroteChain a free0 fresh0 told pages (drop n bytes)) e (h.wrote a is)
 
-pub writing-first : {told0 told : Option Pages} {free0 : List ℕ} {fresh0 : ℕ} {free : List ℕ} {fresh : ℕ} {bytes : List ℕ} {left : ℕ} {pages : List ℕ} {next : ℕ} → IsWriting told0 told free0 fresh0 free fresh bytes left pages next → left ≤ 0 →
+pub writing-first : {told0 told : Option Pages} {free0 : List ℕ} {fresh0 : ℕ} {free : List ℕ} {fresh : ℕ} {bytes : List ℕ} {left : ℕ} {pages : List ℕ}
+    {next : ℕ} → IsWriting told0 told free0 fresh0 free fresh bytes left pages next → left ≤ 0 →
     0 < length bytes → first_number pages < 2 ^ 64 - 1
-writing-first {bytes = bytes} {left = left} {pages = pages} {next = next} h none some = let b : next < 2 ^ 64 - 1 = h.below (omega arith) in let n = h.next_is in omega arith
+writing-first {bytes = bytes} {left = left} {pages = pages} {next = next} h none some = let b : next < 2 ^ 64 - 1 = h.below (omega arith) in
+    let n = h.next_is in omega arith
 
 -- a long value was written
-pub chain-placed : (a : Pages) (free : List ℕ) (fresh : ℕ) (told : Option Pages) (pages bytes value : List ℕ) (first : ℕ) → WroteChain a free fresh told pages bytes → first ≡ first_number pages → length pages ≤ 15 → bytes ≡ value →
+pub chain-placed : (a : Pages) (free : List ℕ) (fresh : ℕ) (told : Option Pages) (pages bytes value : List ℕ) (first : ℕ) →
+    WroteChain a free fresh told pages bytes → first ≡ first_number pages → length pages ≤ 15 → bytes ≡ value →
     WroteValue a free fresh told (Chain (length bytes) first) pages value
 chain-placed a free fresh told pages bytes value first w f few e = record {
   b = w.b;
@@ -122,5 +141,6 @@ chain-placed a free fresh told pages bytes value first w f few e = record {
 }
 
 -- a short value stands in its bucket page, and nothing was written
-pub here-placed : (a : Pages) (free : List ℕ) (fresh : ℕ) (told : Option Pages) (pages copy value : List ℕ) → told ≡ Some a → pages ≡ [] → copy ≡ value → WroteValue a free fresh told (Here copy) pages value
+pub here-placed : (a : Pages) (free : List ℕ) (fresh : ℕ) (told : Option Pages) (pages copy value : List ℕ) → told ≡ Some a → pages ≡ [] → copy ≡ value →
+    WroteValue a free fresh told (Here copy) pages value
 here-placed a free fresh told pages copy value is none e = record { b = a; is_told = is; placed = (e, none); kept = λ n v. refl }

@@ -1,5 +1,6 @@
 -- The pages that a store has handed out, and what they must say.
-use Rattle.std.specs.Prelude.{ℕ, suc, ◌≡◌, ◌<◌, ◌≤◌, ◌+◌, ◌-◌, ◌^◌, ◌==◌, IsTrue, false, if◌then◌else◌, Option, None, Some, List, [], ◌∷◌, length, map, take, drop, get_or, nat_le, option_map}
+use Rattle.std.specs.Prelude.{ℕ, suc, ◌≡◌, ◌<◌, ◌≤◌, ◌+◌, ◌-◌, ◌^◌, ◌==◌, IsTrue, false, if◌then◌else◌, Option, None, Some, List, [], ◌∷◌}
+use Rattle.std.specs.Prelude.{length, map, take, drop, get_or, nat_le, option_map}
 use Rattle.dds_disk.specs.Pages.{Pages, page_at}
 use Rattle.dds_base.specs.Name.{Name, covers}
 use Rattle.dds_pages.specs.Root.{root_bytes}

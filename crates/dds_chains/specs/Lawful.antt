@@ -1,5 +1,6 @@
 -- What a page must say to which a slot leads, and what was given for a page that was refused.
-use Rattle.std.specs.Prelude.{ℕ, ◌≡◌, ◌+◌, ◌-◌, ◌*◌, ◌/◌, ◌==◌, ◌&&◌, Bool, false, min, nat_le, List, [], ◌∷◌, length, get_or, slice_get, Option, Some, None, Result, Ok, Err, ◌⊎◌}
+use Rattle.std.specs.Prelude.{ℕ, ◌≡◌, ◌+◌, ◌-◌, ◌*◌, ◌/◌, ◌==◌, ◌&&◌, Bool, false, min, nat_le, List, [], ◌∷◌, length, get_or, slice_get}
+use Rattle.std.specs.Prelude.{Option, Some, None, Result, Ok, Err, ◌⊎◌}
 use Rattle.dds_cache.specs.Kept.{Kept, held}
 use Rattle.dds_pages.specs.Bucket.{Bucket}
 use Rattle.dds_pages.specs.Overflow.{Overflow}

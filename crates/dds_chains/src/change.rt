@@ -32,11 +32,16 @@ pub fn bind<D: Disk>(
     ensures index { OnOk result (IsIndex table.new) }
     ensures name { OnOk result (table.new.name ≡ table.old.name) }
     ensures root { OnOk result (table.new.root ≡ table.old.root) }
-    ensures number { OnOk result ((n : ℕ) → vacant n space.new.free.items space.new.fresh + table_uses n table.new ≡ vacant n space.old.free.items space.old.fresh + table_uses n table.old) }
-    ensures told { (a : Pages) → D.pages space.old.cache.disk ≡ Some a → IsTable a table.old → (contains_key (content a table.old.root) key ≡ false → table.old.len < 16384) → OnOk result (Changed a space.old.free.items space.old.fresh table.old (D.pages space.new.cache.disk) table.new (insert (content a table.old.root) key value.now)) }
+    ensures number { OnOk result ((n : ℕ) → vacant n space.new.free.items space.new.fresh + table_uses n table.new
+        ≡ vacant n space.old.free.items space.old.fresh + table_uses n table.old) }
+    ensures told { (a : Pages) → D.pages space.old.cache.disk ≡ Some a → IsTable a table.old →
+        (contains_key (content a table.old.root) key ≡ false → table.old.len < 16384) →
+        OnOk result (Changed a space.old.free.items space.old.fresh table.old (D.pages space.new.cache.disk) table.new
+        (insert (content a table.old.root) key value.now)) }
     ensures known { IfOk result (λ was. was ≡ has_key table.old key) }
     ensures keys { OnOk result ((q : ℕ) → has_key table.new q ≡ (key == q || has_key table.old q)) }
-    ensures was { (a : Pages) → D.pages space.old.cache.disk ≡ Some a → IsTable a table.old → IfOk result (λ was. was ≡ contains_key (content a table.old.root) key) }
+    ensures was { (a : Pages) → D.pages space.old.cache.disk ≡ Some a → IsTable a table.old →
+        IfOk result (λ was. was ≡ contains_key (content a table.old.root) key) }
     ensures lawful { (a : Pages) → D.pages space.old.cache.disk ≡ Some a → IsTable a table.old → IfErr result IsNoPage }
     ensures refused { IfErr result (IsTableRefused space.new.cache.kept table.old.buckets.items) }
     ensures stays { IfErr result (WherePage (table.new ≡ table.old)) }
@@ -69,11 +74,15 @@ pub fn unbind<D: Disk>(
     ensures index { OnOk result (IsIndex table.new) }
     ensures name { OnOk result (table.new.name ≡ table.old.name) }
     ensures root { OnOk result (table.new.root ≡ table.old.root) }
-    ensures number { OnOk result ((n : ℕ) → vacant n space.new.free.items space.new.fresh + table_uses n table.new ≡ vacant n space.old.free.items space.old.fresh + table_uses n table.old) }
-    ensures told { (a : Pages) → D.pages space.old.cache.disk ≡ Some a → IsTable a table.old → OnOk result (Changed a space.old.free.items space.old.fresh table.old (D.pages space.new.cache.disk) table.new (without (content a table.old.root) key)) }
+    ensures number { OnOk result ((n : ℕ) → vacant n space.new.free.items space.new.fresh + table_uses n table.new
+        ≡ vacant n space.old.free.items space.old.fresh + table_uses n table.old) }
+    ensures told { (a : Pages) → D.pages space.old.cache.disk ≡ Some a → IsTable a table.old →
+        OnOk result (Changed a space.old.free.items space.old.fresh table.old (D.pages space.new.cache.disk) table.new
+        (without (content a table.old.root) key)) }
     ensures known { IfOk result (λ was. was ≡ has_key table.old key) }
     ensures keys { OnOk result ((q : ℕ) → has_key table.new q ≡ (not (key == q) && has_key table.old q)) }
-    ensures was { (a : Pages) → D.pages space.old.cache.disk ≡ Some a → IsTable a table.old → IfOk result (λ was. was ≡ contains_key (content a table.old.root) key) }
+    ensures was { (a : Pages) → D.pages space.old.cache.disk ≡ Some a → IsTable a table.old →
+        IfOk result (λ was. was ≡ contains_key (content a table.old.root) key) }
     ensures lawful { (a : Pages) → D.pages space.old.cache.disk ≡ Some a → IsTable a table.old → IfErr result IsNoPage }
     ensures refused { IfErr result (IsTableRefused space.new.cache.kept table.old.buckets.items) }
     ensures stays { IfErr result (WherePage (table.new ≡ table.old)) }

@@ -1,6 +1,7 @@
 //! The pairs of a table: reading, adding and taking out one of them.
 
-ghost use Rattle.std.specs.Prelude.{◌≡◌, ◌==◌, ◌||◌, is_some, true, ℕ, ◌+◌, ◌-◌, ◌<◌, ◌≤◌, ◌^◌, ◌∷◌, [], Some, None, option_copied, IsTrue, false, length, get_or, map, replicate, IfOk, IfErr, OnOk, OnErr, IsErrOf};
+ghost use Rattle.std.specs.Prelude.{◌≡◌, ◌==◌, ◌||◌, is_some, true, ℕ, ◌+◌, ◌-◌, ◌<◌, ◌≤◌, ◌^◌, ◌∷◌, [], Some, None, option_copied, IsTrue};
+ghost use Rattle.std.specs.Prelude.{false, length, get_or, map, replicate, IfOk, IfErr, OnOk, OnErr, IsErrOf};
 ghost use Rattle.std.specs.FinMap.{empty, get, insert, remove, contains_key};
 ghost use Rattle.dds_base.specs.Name.{covers};
 ghost use Rattle.dds_base.specs.Outside.{Rose};
@@ -78,7 +79,8 @@ pub(crate) fn read_value<D: Disk>(
     slot: &Slot,
 ) -> Result<Option<Value>, TableFault>
     ensures same { D.pages space.new.cache.disk ≡ D.pages space.old.cache.disk }
-    ensures told { (a : Pages) (next : ℕ) → D.pages space.old.cache.disk ≡ Some a → IsStored a slot.now next → next < 2 ^ 64 → IfOk result (λ value. value ≡ Some (slot_value a slot.now)) }
+    ensures told { (a : Pages) (next : ℕ) → D.pages space.old.cache.disk ≡ Some a → IsStored a slot.now next → next < 2 ^ 64 →
+        IfOk result (λ value. value ≡ Some (slot_value a slot.now)) }
     ensures lawful { (a : Pages) (next : ℕ) → D.pages space.old.cache.disk ≡ Some a → IsStored a slot.now next → next < 2 ^ 64 → IfErr result IsNoPage }
     ensures refused { IfErr result (IsSlotRefused space.new.cache.kept slot.now) }
     ensures some { IfOk result (λ value. is_some value ≡ true) }
@@ -111,7 +113,8 @@ pub fn get<D: Disk>(
 ) -> Result<Option<Value>, TableFault>
     requires { IsIndex table.now }
     ensures same { D.pages space.new.cache.disk ≡ D.pages space.old.cache.disk }
-    ensures told { (a : Pages) → D.pages space.old.cache.disk ≡ Some a → IsTable a table.now → IfOk result (λ value. value ≡ get (content a table.now.root) key) }
+    ensures told { (a : Pages) → D.pages space.old.cache.disk ≡ Some a → IsTable a table.now →
+        IfOk result (λ value. value ≡ get (content a table.now.root) key) }
     ensures lawful { (a : Pages) → D.pages space.old.cache.disk ≡ Some a → IsTable a table.now → IfErr result IsNoPage }
     ensures refused { IfErr result (IsTableRefused space.new.cache.kept table.now.buckets.items) }
     ensures known { IfOk result (λ value. is_some value ≡ has_key table.now key) }
@@ -142,7 +145,9 @@ fn pair_page(alloc: Global, key: u64, held: Held, next: u64) -> Result<BucketPag
 pub(crate) fn write_root<D: Disk>(space: &mut Space<D>, table: &Chains) -> Result<(), TableFault>
     requires long { length table.now.buckets.items ≡ 256 }
     requires few { table.now.len ≤ 16384 }
-    ensures told { (a : Pages) → D.pages space.old.cache.disk ≡ Some a → OnOk result (D.pages space.new.cache.disk ≡ Some (insert a table.now.root (root_bytes 2 (record { pairs = table.now.len; firsts = map first_page table.now.buckets.items })))) }
+    ensures told { (a : Pages) → D.pages space.old.cache.disk ≡ Some a →
+        OnOk result (D.pages space.new.cache.disk
+        ≡ Some (insert a table.now.root (root_bytes 2 (record { pairs = table.now.len; firsts = map first_page table.now.buckets.items })))) }
     ensures lawful { IfErr result IsNoPage }
     ensures free { space.new.free.items ≡ space.old.free.items }
     ensures fresh { space.new.fresh ≡ space.old.fresh }
@@ -162,8 +167,10 @@ pub fn create<D: Disk>(space: &mut Space<D>, name: LeafName) -> Result<Chains, T
     ensures name { IfOk result (λ table. table.name ≡ name) }
     ensures len { IfOk result (λ table. table.len ≡ 0) }
     ensures buckets { IfOk result (λ table. table.buckets.items ≡ replicate 256 []) }
-    ensures number { IfOk result (λ table. (n : ℕ) → vacant n space.new.free.items space.new.fresh + table_uses n table ≡ vacant n space.old.free.items space.old.fresh) }
-    ensures told { (a : Pages) → D.pages space.old.cache.disk ≡ Some a → IfOk result (λ table. Made a space.old.free.items space.old.fresh (D.pages space.new.cache.disk) table) }
+    ensures number { IfOk result (λ table. (n : ℕ) →
+        vacant n space.new.free.items space.new.fresh + table_uses n table ≡ vacant n space.old.free.items space.old.fresh) }
+    ensures told { (a : Pages) → D.pages space.old.cache.disk ≡ Some a →
+        IfOk result (λ table. Made a space.old.free.items space.old.fresh (D.pages space.new.cache.disk) table) }
     ensures lawful { IfErr result IsNoPage }
     ensures untold { D.pages space.old.cache.disk ≡ None → D.pages space.new.cache.disk ≡ None }
     ensures rose { IsErrOf result TableFault.Disk → Rose (D.faults space.old.cache.disk) (D.faults space.new.cache.disk) }
@@ -197,9 +204,12 @@ pub(crate) fn add_pair<D: Disk>(
     ensures index { OnOk result (IsIndex table.new) }
     ensures name { OnOk result (table.new.name ≡ table.old.name) }
     ensures root { OnOk result (table.new.root ≡ table.old.root) }
-    ensures number { OnOk result ((n : ℕ) → vacant n space.new.free.items space.new.fresh + table_uses n table.new ≡ vacant n space.old.free.items space.old.fresh + table_uses n table.old) }
+    ensures number { OnOk result ((n : ℕ) → vacant n space.new.free.items space.new.fresh + table_uses n table.new
+        ≡ vacant n space.old.free.items space.old.fresh + table_uses n table.old) }
     ensures keys { OnOk result ((q : ℕ) → has_key table.new q ≡ (key == q || has_key table.old q)) }
-    ensures told { (a : Pages) → D.pages space.old.cache.disk ≡ Some a → IsTable a table.old → table.old.len < 16384 → OnOk result (Changed a space.old.free.items space.old.fresh table.old (D.pages space.new.cache.disk) table.new (insert (content a table.old.root) key value.now)) }
+    ensures told { (a : Pages) → D.pages space.old.cache.disk ≡ Some a → IsTable a table.old → table.old.len < 16384 →
+        OnOk result (Changed a space.old.free.items space.old.fresh table.old (D.pages space.new.cache.disk) table.new
+        (insert (content a table.old.root) key value.now)) }
     ensures lawful { IfErr result IsNoPage }
     ensures untold { D.pages space.old.cache.disk ≡ None → D.pages space.new.cache.disk ≡ None }
     ensures rose { IsErrOf result TableFault.Disk → Rose (D.faults space.old.cache.disk) (D.faults space.new.cache.disk) }

@@ -75,7 +75,8 @@ pub fn read_part<D: Disk>(
 ) -> Result<Part, TableFault>
     requires { IsIndex table.now }
     ensures same { D.pages space.new.cache.disk ≡ D.pages space.old.cache.disk }
-    ensures told { (a : Pages) → D.pages space.old.cache.disk ≡ Some a → IsTable a table.now → IfOk result (λ part. IsPart (content a table.now.root) start most part.pairs part.last) }
+    ensures told { (a : Pages) → D.pages space.old.cache.disk ≡ Some a → IsTable a table.now →
+        IfOk result (λ part. IsPart (content a table.now.root) start most part.pairs part.last) }
     ensures most { IfOk result (λ part. length part.pairs ≤ most) }
     ensures lawful { (a : Pages) → D.pages space.old.cache.disk ≡ Some a → IsTable a table.now → IfErr result IsNoPage }
     ensures refused { IfErr result (IsTableRefused space.new.cache.kept table.now.buckets.items) }

@@ -1,6 +1,7 @@
 //! Taking a pair out of a table.
 
-ghost use Rattle.std.specs.Prelude.{◌≡◌, ◌==◌, ◌&&◌, not, ℕ, ◌+◌, ◌-◌, ◌<◌, ◌≤◌, ◌^◌, List, ◌∷◌, [], Some, None, IsTrue, length, get_or, IfOk, IfErr, OnOk, OnErr, IsErrOf, vec_capacity};
+ghost use Rattle.std.specs.Prelude.{◌≡◌, ◌==◌, ◌&&◌, not, ℕ, ◌+◌, ◌-◌, ◌<◌, ◌≤◌, ◌^◌, List, ◌∷◌, [], Some, None, IsTrue, length, get_or};
+ghost use Rattle.std.specs.Prelude.{IfOk, IfErr, OnOk, OnErr, IsErrOf, vec_capacity};
 ghost use Rattle.std.specs.FinMap.{insert, remove as without};
 ghost use Rattle.dds_base.specs.Outside.{Rose};
 ghost use Rattle.dds_disk.specs.Pages.{Pages, page_at};
@@ -24,7 +25,9 @@ use dds_pages::bucket::BucketPage;
 
 /// Gives a bucket page another next page.
 fn relink<D: Disk>(space: &mut Space<D>, page: u64, next: u64) -> Result<(), TableFault>
-    ensures told { (a : Pages) (pairs : List PagePair) (was : ℕ) → D.pages space.old.cache.disk ≡ Some a → bucket_in (page_at a page) ≡ Some (record { pairs = pairs; next = was }) → OnOk result (D.pages space.new.cache.disk ≡ Some (insert a page (bucket_bytes (record { pairs = pairs; next = next })))) }
+    ensures told { (a : Pages) (pairs : List PagePair) (was : ℕ) → D.pages space.old.cache.disk ≡ Some a →
+        bucket_in (page_at a page) ≡ Some (record { pairs = pairs; next = was }) →
+        OnOk result (D.pages space.new.cache.disk ≡ Some (insert a page (bucket_bytes (record { pairs = pairs; next = next })))) }
     ensures lawful { (a : Pages) (bucket : Bucket) → D.pages space.old.cache.disk ≡ Some a → bucket_in (page_at a page) ≡ Some bucket → IfErr result IsNoPage }
     ensures refused { IfErr result (IsSilent bucket_in space.new.cache.kept page) }
     ensures free { space.new.free.items ≡ space.old.free.items }
@@ -49,7 +52,8 @@ fn relink<D: Disk>(space: &mut Space<D>, page: u64, next: u64) -> Result<(), Tab
 /// Makes the chain lead past a slot.
 fn bridge<D: Disk>(space: &mut Space<D>, slots: &[Slot], place: usize) -> Result<(), TableFault>
     requires within { place < length slots.now }
-    ensures told { (a : Pages) → D.pages space.old.cache.disk ≡ Some a → IsChain a slots.now → ((n : ℕ) → chain_uses n slots.now ≤ 1) → OnOk result (Bridged a slots.now place (D.pages space.new.cache.disk)) }
+    ensures told { (a : Pages) → D.pages space.old.cache.disk ≡ Some a → IsChain a slots.now → ((n : ℕ) → chain_uses n slots.now ≤ 1) →
+        OnOk result (Bridged a slots.now place (D.pages space.new.cache.disk)) }
     ensures lawful { (a : Pages) → D.pages space.old.cache.disk ≡ Some a → IsChain a slots.now → IfErr result IsNoPage }
     ensures refused { IfErr result (IsChainRefused space.new.cache.kept slots.now) }
     ensures free { space.new.free.items ≡ space.old.free.items }
@@ -73,7 +77,8 @@ fn bridge<D: Disk>(space: &mut Space<D>, slots: &[Slot], place: usize) -> Result
 /// Takes a slot's pages back.
 pub(crate) fn release<D: Disk>(space: &mut Space<D>, slot: &Slot) -> Result<(), Memory>
     ensures cache { space.new.cache ≡ space.old.cache }
-    ensures number { OnOk result ((n : ℕ) → vacant n space.new.free.items space.new.fresh ≡ vacant n space.old.free.items space.old.fresh + slot_uses n slot.now) }
+    ensures number { OnOk result ((n : ℕ) → vacant n space.new.free.items space.new.fresh ≡ vacant n space.old.free.items space.old.fresh + slot_uses n
+        slot.now) }
 {
     space.give_back(slot.page)?;
     'pages: for page in slot.overflow.as_slice() {
@@ -96,8 +101,11 @@ pub(crate) fn remove_pair<D: Disk>(
     ensures index { OnOk result (IsIndex table.new) }
     ensures name { OnOk result (table.new.name ≡ table.old.name) }
     ensures root { OnOk result (table.new.root ≡ table.old.root) }
-    ensures number { OnOk result ((n : ℕ) → vacant n space.new.free.items space.new.fresh + table_uses n table.new ≡ vacant n space.old.free.items space.old.fresh + table_uses n table.old) }
-    ensures told { (a : Pages) → D.pages space.old.cache.disk ≡ Some a → IsTable a table.old → OnOk result (Changed a space.old.free.items space.old.fresh table.old (D.pages space.new.cache.disk) table.new (without (content a table.old.root) key)) }
+    ensures number { OnOk result ((n : ℕ) → vacant n space.new.free.items space.new.fresh + table_uses n table.new
+        ≡ vacant n space.old.free.items space.old.fresh + table_uses n table.old) }
+    ensures told { (a : Pages) → D.pages space.old.cache.disk ≡ Some a → IsTable a table.old →
+        OnOk result (Changed a space.old.free.items space.old.fresh table.old (D.pages space.new.cache.disk) table.new
+        (without (content a table.old.root) key)) }
     ensures keys { OnOk result ((q : ℕ) → has_key table.new q ≡ (not (key == q) && has_key table.old q)) }
     ensures gone { OnOk result (Misses key (get_or table.new.buckets.items (bucket_no key) [])) }
     ensures less { (a : Pages) → D.pages space.old.cache.disk ≡ Some a → IsTable a table.old → OnOk result (table.new.len < table.old.len) }
@@ -118,7 +126,8 @@ pub(crate) fn remove_pair<D: Disk>(
 /// Takes the pages of a chain back.
 fn release_chain<D: Disk>(space: &mut Space<D>, slots: &[Slot]) -> Result<(), Memory>
     ensures cache { space.new.cache ≡ space.old.cache }
-    ensures number { OnOk result ((n : ℕ) → vacant n space.new.free.items space.new.fresh ≡ vacant n space.old.free.items space.old.fresh + chain_uses n slots.now) }
+    ensures number { OnOk result ((n : ℕ) → vacant n space.new.free.items space.new.fresh ≡ vacant n space.old.free.items space.old.fresh + chain_uses n
+        slots.now) }
 {
     'slots: for slot in slots {
         release(space, slot)?;
@@ -129,7 +138,8 @@ fn release_chain<D: Disk>(space: &mut Space<D>, slots: &[Slot]) -> Result<(), Me
 /// Takes all pages of a table back.
 fn release_table<D: Disk>(space: &mut Space<D>, table: &Chains) -> Result<(), Memory>
     ensures cache { space.new.cache ≡ space.old.cache }
-    ensures number { OnOk result ((n : ℕ) → vacant n space.new.free.items space.new.fresh ≡ vacant n space.old.free.items space.old.fresh + table_uses n table.now) }
+    ensures number { OnOk result ((n : ℕ) → vacant n space.new.free.items space.new.fresh ≡ vacant n space.old.free.items space.old.fresh + table_uses n
+        table.now) }
 {
     space.give_back(table.root)?;
     'buckets: for slots in table.buckets.as_slice() {
@@ -141,7 +151,8 @@ fn release_table<D: Disk>(space: &mut Space<D>, table: &Chains) -> Result<(), Me
 /// Takes back the pages of the table that was dropped last.
 pub fn reclaim<D: Disk>(space: &mut Space<D>, dropped: &mut Vec<Chains>) -> Result<(), Memory>
     ensures cache { space.new.cache ≡ space.old.cache }
-    ensures number { OnOk result ((n : ℕ) → vacant n space.new.free.items space.new.fresh + tables_use n dropped.new.items ≡ vacant n space.old.free.items space.old.fresh + tables_use n dropped.old.items) }
+    ensures number { OnOk result ((n : ℕ) → vacant n space.new.free.items space.new.fresh + tables_use n dropped.new.items
+        ≡ vacant n space.old.free.items space.old.fresh + tables_use n dropped.old.items) }
     ensures shorter { length dropped.new.items ≤ length dropped.old.items }
     ensures capacity { vec_capacity dropped.old ≤ vec_capacity dropped.new }
 {

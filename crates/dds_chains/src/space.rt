@@ -53,7 +53,8 @@ impl<D: Disk> Space<D> {
         requires { (n : ℕ) → vacant n self.old.free.items self.old.fresh ≤ 1 }
         ensures below { IfOk result (λ page. page < 2 ^ 64 - 1) }
         ensures cache { self.new.cache ≡ self.old.cache }
-        ensures number { IfOk result (λ page. (n : ℕ) → vacant n self.new.free.items self.new.fresh + same n page ≡ vacant n self.old.free.items self.old.fresh) }
+        ensures number { IfOk result (λ page. (n : ℕ) →
+            vacant n self.new.free.items self.new.fresh + same n page ≡ vacant n self.old.free.items self.old.fresh) }
     {
         let fresh = self.fresh;
         if let Some(page) = self.free.pop() {
@@ -96,7 +97,8 @@ impl<D: Disk> Space<D> {
 
     /// Writes a page.
     pub(crate) fn write(&mut self, page: u64) -> Result<(), TableFault>
-        ensures told { (a : Pages) → D.pages self.old.cache.disk ≡ Some a → OnOk result (D.pages self.new.cache.disk ≡ Some (insert a page (padded self.old.writer))) }
+        ensures told { (a : Pages) → D.pages self.old.cache.disk ≡ Some a →
+            OnOk result (D.pages self.new.cache.disk ≡ Some (insert a page (padded self.old.writer))) }
         ensures lawful { IfErr result IsNoPage }
         ensures free { self.new.free.items ≡ self.old.free.items }
         ensures fresh { self.new.fresh ≡ self.old.fresh }

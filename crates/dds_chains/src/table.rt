@@ -1,6 +1,7 @@
 //! A table in memory: where the pairs of each bucket stand.
 
-ghost use Rattle.std.specs.Prelude.{◌≡◌, ◌+◌, ◌-◌, ◌<◌, ◌≤◌, ◌^◌, ◌∷◌, [], length, map, get_or, replicate, slice_set, OnOk, OnErr, IfOk, IfSome, if◌then◌else◌, nat_lt};
+ghost use Rattle.std.specs.Prelude.{◌≡◌, ◌+◌, ◌-◌, ◌<◌, ◌≤◌, ◌^◌, ◌∷◌, [], length, map, get_or, replicate, slice_set, OnOk, OnErr, IfOk};
+ghost use Rattle.std.specs.Prelude.{IfSome, if◌then◌else◌, nat_lt};
 ghost use Rattle.std.proofs.Math.ListN.{set};
 ghost use Rattle.std.specs.List.{remove};
 ghost use Rattle.dds_pages.specs.Fields.{padded};
@@ -108,7 +109,8 @@ impl Chains {
         ensures name { self.new.name ≡ self.old.name }
         ensures root { self.new.root ≡ self.old.root }
         ensures len { OnOk result (self.new.len ≡ (if nat_lt self.old.len 16384 then self.old.len + 1 else self.old.len)) }
-        ensures buckets { OnOk result (self.new.buckets.items ≡ set self.old.buckets.items (bucket_no slot.key) (slot ∷ get_or self.old.buckets.items (bucket_no slot.key) [])) }
+        ensures buckets { OnOk result (self.new.buckets.items
+            ≡ set self.old.buckets.items (bucket_no slot.key) (slot ∷ get_or self.old.buckets.items (bucket_no slot.key) [])) }
     {
         let bucket = usize::from(bucket_of(slot.key));
         self.buckets[bucket].insert(0, slot)?;
@@ -126,7 +128,8 @@ impl Chains {
         ensures name { self.new.name ≡ self.old.name }
         ensures root { self.new.root ≡ self.old.root }
         ensures len { self.new.len ≡ self.old.len - 1 }
-        ensures buckets { self.new.buckets.items ≡ set self.old.buckets.items (bucket_no key) (remove (get_or self.old.buckets.items (bucket_no key) []) place) }
+        ensures buckets { self.new.buckets.items
+            ≡ set self.old.buckets.items (bucket_no key) (remove (get_or self.old.buckets.items (bucket_no key) []) place) }
     {
         let bucket = usize::from(bucket_of(key));
         let slot = self.buckets[bucket].remove(place);

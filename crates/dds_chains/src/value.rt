@@ -1,6 +1,7 @@
 //! Values of tables: short ones stand in their bucket page, long ones in overflow pages.
 
-ghost use Rattle.std.specs.Prelude.{◌≡◌, true, ℕ, ◌+◌, ◌-◌, ◌*◌, ◌<◌, ◌≤◌, ◌^◌, ◌++◌, List, [], length, take, drop, IfOk, IfErr, OnOk, OnErr, IsErrOf, None, Some};
+ghost use Rattle.std.specs.Prelude.{◌≡◌, true, ℕ, ◌+◌, ◌-◌, ◌*◌, ◌<◌, ◌≤◌, ◌^◌, ◌++◌, List, [], length, take, drop, IfOk, IfErr, OnOk};
+ghost use Rattle.std.specs.Prelude.{OnErr, IsErrOf, None, Some};
 ghost use Rattle.std.specs.FinMap.{insert};
 ghost use Rattle.dds_base.specs.Outside.{Rose};
 ghost use Rattle.dds_disk.specs.Pages.{Pages, page_at};
@@ -65,9 +66,11 @@ fn write_overflow<D: Disk>(space: &mut Space<D>, bytes: &[u8], next: u64) -> Res
     requires single { (n : ℕ) → vacant n space.old.free.items space.old.fresh ≤ 1 }
     requires some { 0 < length bytes.now }
     requires few { length bytes.now ≤ 4080 }
-    ensures number { IfOk result (λ page. (n : ℕ) → vacant n space.new.free.items space.new.fresh + same n page ≡ vacant n space.old.free.items space.old.fresh) }
+    ensures number { IfOk result (λ page. (n : ℕ) →
+        vacant n space.new.free.items space.new.fresh + same n page ≡ vacant n space.old.free.items space.old.fresh) }
     ensures below { IfOk result (λ page. page < 2 ^ 64 - 1) }
-    ensures told { (a : Pages) → D.pages space.old.cache.disk ≡ Some a → IfOk result (λ page. D.pages space.new.cache.disk ≡ Some (insert a page (overflow_bytes (record { bytes = bytes.now; next = next })))) }
+    ensures told { (a : Pages) → D.pages space.old.cache.disk ≡ Some a →
+        IfOk result (λ page. D.pages space.new.cache.disk ≡ Some (insert a page (overflow_bytes (record { bytes = bytes.now; next = next })))) }
     ensures lawful { IfErr result IsNoPage }
     ensures untold { D.pages space.old.cache.disk ≡ None → D.pages space.new.cache.disk ≡ None }
     ensures rose { IsErrOf result TableFault.Disk → Rose (D.faults space.old.cache.disk) (D.faults space.new.cache.disk) }
@@ -87,10 +90,12 @@ fn write_overflow<D: Disk>(space: &mut Space<D>, bytes: &[u8], next: u64) -> Res
 fn write_chain<D: Disk>(space: &mut Space<D>, bytes: &[u8]) -> Result<Items<u64>, TableFault>
     requires single { (n : ℕ) → vacant n space.old.free.items space.old.fresh ≤ 1 }
     requires most { length bytes.now ≤ 60000 }
-    ensures number { IfOk result (λ pages. (n : ℕ) → vacant n space.new.free.items space.new.fresh + times n pages ≡ vacant n space.old.free.items space.old.fresh) }
+    ensures number { IfOk result (λ pages. (n : ℕ) →
+        vacant n space.new.free.items space.new.fresh + times n pages ≡ vacant n space.old.free.items space.old.fresh) }
     ensures few { IfOk result (λ pages. length pages ≤ 15) }
     ensures first { IfOk result (λ pages. 0 < length bytes.now → first_number pages < 2 ^ 64 - 1) }
-    ensures told { (a : Pages) → D.pages space.old.cache.disk ≡ Some a → IfOk result (λ pages. WroteChain a space.old.free.items space.old.fresh (D.pages space.new.cache.disk) pages bytes.now) }
+    ensures told { (a : Pages) → D.pages space.old.cache.disk ≡ Some a →
+        IfOk result (λ pages. WroteChain a space.old.free.items space.old.fresh (D.pages space.new.cache.disk) pages bytes.now) }
     ensures lawful { IfErr result IsNoPage }
     ensures untold { D.pages space.old.cache.disk ≡ None → D.pages space.new.cache.disk ≡ None }
     ensures rose { IsErrOf result TableFault.Disk → Rose (D.faults space.old.cache.disk) (D.faults space.new.cache.disk) }
@@ -116,9 +121,11 @@ fn write_chain<D: Disk>(space: &mut Space<D>, bytes: &[u8]) -> Result<Items<u64>
 /// Writes a value where it needs pages of its own, and says where it stands.
 pub(crate) fn place<D: Disk>(space: &mut Space<D>, value: &Value) -> Result<Placed, TableFault>
     requires single { (n : ℕ) → vacant n space.old.free.items space.old.fresh ≤ 1 }
-    ensures number { IfOk result (λ placed. (n : ℕ) → vacant n space.new.free.items space.new.fresh + times n placed.overflow ≡ vacant n space.old.free.items space.old.fresh) }
+    ensures number { IfOk result (λ placed. (n : ℕ) →
+        vacant n space.new.free.items space.new.fresh + times n placed.overflow ≡ vacant n space.old.free.items space.old.fresh) }
     ensures held { IfOk result (λ placed. IsHeld placed.held) }
-    ensures told { (a : Pages) → D.pages space.old.cache.disk ≡ Some a → IfOk result (λ placed. WroteValue a space.old.free.items space.old.fresh (D.pages space.new.cache.disk) placed.held placed.overflow value.now) }
+    ensures told { (a : Pages) → D.pages space.old.cache.disk ≡ Some a →
+        IfOk result (λ placed. WroteValue a space.old.free.items space.old.fresh (D.pages space.new.cache.disk) placed.held placed.overflow value.now) }
     ensures lawful { IfErr result IsNoPage }
     ensures untold { D.pages space.old.cache.disk ≡ None → D.pages space.new.cache.disk ≡ None }
     ensures rose { IsErrOf result TableFault.Disk → Rose (D.faults space.old.cache.disk) (D.faults space.new.cache.disk) }
@@ -172,9 +179,11 @@ fn read_chain<D: Disk>(
     len: usize,
 ) -> Result<Vec<u8>, TableFault>
     ensures same { D.pages space.new.cache.disk ≡ D.pages space.old.cache.disk }
-    ensures told { (a : Pages) (value : List ℕ) → D.pages space.old.cache.disk ≡ Some a → IsSpread a overflow.now value → len ≡ length value → IfOk result (λ bytes. bytes.items ≡ value) }
+    ensures told { (a : Pages) (value : List ℕ) → D.pages space.old.cache.disk ≡ Some a → IsSpread a overflow.now value → len ≡ length value →
+        IfOk result (λ bytes. bytes.items ≡ value) }
     ensures few { IfOk result (λ bytes. length bytes.items ≤ len) }
-    ensures lawful { (a : Pages) (value : List ℕ) → D.pages space.old.cache.disk ≡ Some a → IsSpread a overflow.now value → len ≡ length value → IfErr result IsNoPage }
+    ensures lawful { (a : Pages) (value : List ℕ) → D.pages space.old.cache.disk ≡ Some a → IsSpread a overflow.now value → len ≡ length value →
+        IfErr result IsNoPage }
     ensures refused { IfErr result (IsPieceRefused space.new.cache.kept overflow.now len) }
     ensures free { space.new.free.items ≡ space.old.free.items }
     ensures fresh { space.new.fresh ≡ space.old.fresh }
@@ -236,8 +245,10 @@ pub(crate) fn fetch<D: Disk>(
 ) -> Result<Value, TableFault>
     requires { is_place_of slot.now held.now ≡ true }
     ensures same { D.pages space.new.cache.disk ≡ D.pages space.old.cache.disk }
-    ensures told { (a : Pages) (bytes : List ℕ) → D.pages space.old.cache.disk ≡ Some a → IsPlaced a held.now slot.now.overflow bytes → IfOk result (λ value. value ≡ bytes) }
-    ensures lawful { (a : Pages) (bytes : List ℕ) → D.pages space.old.cache.disk ≡ Some a → IsPlaced a held.now slot.now.overflow bytes → IfErr result IsNoPage }
+    ensures told { (a : Pages) (bytes : List ℕ) → D.pages space.old.cache.disk ≡ Some a → IsPlaced a held.now slot.now.overflow bytes →
+        IfOk result (λ value. value ≡ bytes) }
+    ensures lawful { (a : Pages) (bytes : List ℕ) → D.pages space.old.cache.disk ≡ Some a → IsPlaced a held.now slot.now.overflow bytes →
+        IfErr result IsNoPage }
     ensures refused { IfErr result (IsSlotRefused space.new.cache.kept slot.now) }
     ensures free { space.new.free.items ≡ space.old.free.items }
     ensures fresh { space.new.fresh ≡ space.old.fresh }

@@ -16,7 +16,8 @@ use Rattle.dds_states.specs.declared.brick_state.BrickState.{BrickState}
 use Rattle.dds_states.specs.declared.library_state.LibraryState.{LibraryState}
 use Rattle.dds_cluster.proofs.Openings.{length-bricks, length-libraries}
 use Rattle.dds_cluster.specs.Trace.{adds, is_possible, next, start}
-use Rattle.dds_cluster.specs.Turn.{at_library, at_node, brick_does, call_at, handle, input_at, library_does, order_at, points_made, post, stop_at, stop_library, tells, turn}
+use Rattle.dds_cluster.specs.Turn.{at_library, at_node, brick_does, call_at, handle, input_at, library_does, order_at, points_made, post}
+use Rattle.dds_cluster.specs.Turn.{stop_at, stop_library, tells, turn}
 use Rattle.dds_cluster.specs.World.{World, brick_at, emptied, library_at, link, outbox, place, send, set_link, set_outbox}
 use Rattle.dds_cluster.specs.declared.step.Input.{Input}
 use Rattle.dds_cluster.specs.declared.step.Input.TheVariants as input
@@ -39,7 +40,8 @@ pub record IsSized (b l : ℕ) (w : World) : Type 0 where
   pub links : length w.links ≡ b + l
   pub rows : AreRows (b + l) w.links
 
-rows-set : (n : ℕ) (rows : List (List (List Message))) (i j : ℕ) (ms : List Message) → AreRows n rows → AreRows n (slice_set rows i (slice_set (slice_index_or rows i []) j ms))
+rows-set : (n : ℕ) (rows : List (List (List Message))) (i j : ℕ) (ms : List Message) → AreRows n rows →
+    AreRows n (slice_set rows i (slice_set (slice_index_or rows i []) j ms))
 rows-set n [] i j ms a = tt
 rows-set n (row ∷ rows) zero j ms a = (length-set row j ms ∙ a.0, a.1)
 rows-set n (row ∷ rows) (suc i) j ms a = (a.0, rows-set n rows i j ms a.1)
@@ -59,16 +61,41 @@ sized-link b l w from to ms s =
     }
 
 sized-outbox : (b l : ℕ) (w : World) (node : ℕ) (ms : List Message) → IsSized b l w → IsSized b l (set_outbox w node ms)
-sized-outbox b l w node ms s = record { bricks = s.bricks; libraries = s.libraries; outboxes = length-set w.outboxes _ ms ∙ s.outboxes; links = s.links; rows = s.rows }
+sized-outbox b l w node ms s = record {
+  bricks = s.bricks;
+  libraries = s.libraries;
+  outboxes = length-set w.outboxes _ ms ∙ s.outboxes;
+  links = s.links;
+  rows = s.rows;
+}
 
 sized-send : (b l : ℕ) (w : World) (at : ℕ) (ls : List (NodeNo × Letter)) → IsSized b l w → IsSized b l (send w at ls)
-sized-send b l w at ls s = record { bricks = s.bricks; libraries = s.libraries; outboxes = length-set w.outboxes at _ ∙ s.outboxes; links = s.links; rows = s.rows }
+sized-send b l w at ls s = record {
+  bricks = s.bricks;
+  libraries = s.libraries;
+  outboxes = length-set w.outboxes at _ ∙ s.outboxes;
+  links = s.links;
+  rows = s.rows;
+}
 
 pub sized-bricks : (b l : ℕ) (w : World) (node : ℕ) (x : BrickState) → IsSized b l w → IsSized b l (record w { bricks = slice_set w.bricks node x })
-sized-bricks b l w node x s = record { bricks = length-set w.bricks node x ∙ s.bricks; libraries = s.libraries; outboxes = s.outboxes; links = s.links; rows = s.rows }
+sized-bricks b l w node x s = record {
+  bricks = length-set w.bricks node x ∙ s.bricks;
+  libraries = s.libraries;
+  outboxes = s.outboxes;
+  links = s.links;
+  rows = s.rows;
+}
 
-pub sized-libraries : (b l : ℕ) (w : World) (node : ℕ) (x : LibraryState) → IsSized b l w → IsSized b l (record w { libraries = slice_set w.libraries (node - 64) x })
-sized-libraries b l w node x s = record { bricks = s.bricks; libraries = length-set w.libraries (node - 64) x ∙ s.libraries; outboxes = s.outboxes; links = s.links; rows = s.rows }
+pub sized-libraries : (b l : ℕ) (w : World) (node : ℕ) (x : LibraryState) → IsSized b l w →
+    IsSized b l (record w { libraries = slice_set w.libraries (node - 64) x })
+sized-libraries b l w node x s = record {
+  bricks = s.bricks;
+  libraries = length-set w.libraries (node - 64) x ∙ s.libraries;
+  outboxes = s.outboxes;
+  links = s.links;
+  rows = s.rows;
+}
 
 sized-brick-does : (b l : ℕ) (w : World) (node : ℕ) (t : BrickTurn) (made : List Made) → IsSized b l w → IsSized b l (brick_does w node t made).world
 sized-brick-does b l w node t made s =
@@ -76,13 +103,16 @@ sized-brick-does b l w node t made s =
 
 sized-library-does : (b l : ℕ) (w : World) (node : ℕ) (t : LibraryTurn) → IsSized b l w → IsSized b l (library_does w node t).world
 sized-library-does b l w node t s =
-    sized-send b l (record w { libraries = slice_set w.libraries (node - 64) t.state }) (length w.bricks + (node - 64)) t.out.letters (sized-libraries b l w node t.state s)
+    sized-send b l (record w { libraries = slice_set w.libraries (node - 64) t.state }) (length w.bricks + (node - 64)) t.out.letters
+    (sized-libraries b l w node t.state s)
 
-sized-at-library : (b l : ℕ) (w : World) (node from : NodeNo) (m : Letter) (o : Option LibraryState) → IsSized b l w → IsSized b l (at_library w node from m o).world
+sized-at-library : (b l : ℕ) (w : World) (node from : NodeNo) (m : Letter) (o : Option LibraryState) → IsSized b l w →
+    IsSized b l (at_library w node from m o).world
 sized-at-library b l w node from m None s = s
 sized-at-library b l w node from m (Some x) s = sized-library-does b l w node (library_turn x from m) s
 
-sized-at-node : (b l : ℕ) (w : World) (at : ℕ) (node from : NodeNo) (m : Letter) (o : Option BrickState) → IsSized b l w → IsSized b l (at_node w at node from m o).world
+sized-at-node : (b l : ℕ) (w : World) (at : ℕ) (node from : NodeNo) (m : Letter) (o : Option BrickState) → IsSized b l w →
+    IsSized b l (at_node w at node from m o).world
 sized-at-node b l w at node from m None s = sized-at-library b l w node from m (library_at w node) s
 sized-at-node b l w at node from m (Some x) s =
     sized-brick-does b l w node (brick_turn x from m) (points_made at m (brick_turn x from m).out.points) s
@@ -96,7 +126,8 @@ sized-post : (b l : ℕ) (w : World) (node : NodeNo) (ms : List Message) → IsS
 sized-post b l w node [] s = s
 sized-post b l w node (m ∷ ms) s = sized-link b l (set_outbox w node ms) node m.to _ (sized-outbox b l w node ms s)
 
-sized-call : (b l : ℕ) (w : World) (node : NodeNo) (caller : CallerNo) (call : CallNo) (op : Op) (o : Option LibraryState) → IsSized b l w → IsSized b l (call_at w node caller call op o).world
+sized-call : (b l : ℕ) (w : World) (node : NodeNo) (caller : CallerNo) (call : CallNo) (op : Op) (o : Option LibraryState) → IsSized b l w →
+    IsSized b l (call_at w node caller call op o).world
 sized-call b l w node caller call op None s = s
 sized-call b l w node caller call op (Some x) s = sized-library-does b l w node (library_input x caller call op) s
 
@@ -113,11 +144,13 @@ sized-tells b l w node s = sized-send b l (set_outbox w node []) (place w node) 
 
 sized-stop-library : (b l : ℕ) (w : World) (node : NodeNo) (o : Option LibraryState) → IsSized b l w → IsSized b l (stop_library w node o)
 sized-stop-library b l w node None s = s
-sized-stop-library b l w node (Some x) s = sized-tells b l (record w { libraries = slice_set w.libraries (node - 64) (record x { stopped = true }) }) node (sized-libraries b l w node (record x { stopped = true }) s)
+sized-stop-library b l w node (Some x) s = sized-tells b l (record w { libraries = slice_set w.libraries (node - 64) (record x { stopped = true }) }) node
+    (sized-libraries b l w node (record x { stopped = true }) s)
 
 sized-stop : (b l : ℕ) (w : World) (node : NodeNo) (o : Option BrickState) → IsSized b l w → IsSized b l (stop_at w node o)
 sized-stop b l w node None s = sized-stop-library b l w node (library_at w node) s
-sized-stop b l w node (Some x) s = sized-tells b l (record w { bricks = slice_set w.bricks node (emptied x.number) }) node (sized-bricks b l w node (emptied x.number) s)
+sized-stop b l w node (Some x) s = sized-tells b l (record w { bricks = slice_set w.bricks node (emptied x.number) }) node
+    (sized-bricks b l w node (emptied x.number) s)
 
 -- a step keeps the lengths
 sized-turn : (b l at : ℕ) (w : World) (x : Step) → IsSized b l w → IsSized b l (turn at w x).world
@@ -126,7 +159,8 @@ sized-turn b l at w (step.Handle node from) s = sized-handle b l w at node from 
 sized-turn b l at w (step.Post node) s = sized-post b l w node (outbox w node) s
 sized-turn b l at w (step.Stop node) s = sized-stop b l w node (brick_at w node) s
 
-sized-if : (b l : ℕ) (t : Trace) (x : Step) (possible : Bool) → IsSized b l t.world → IsSized b l (if possible then adds t x (turn t.steps t.world x) else record t { steps = t.steps + 1 }).world
+sized-if : (b l : ℕ) (t : Trace) (x : Step) (possible : Bool) → IsSized b l t.world →
+    IsSized b l (if possible then adds t x (turn t.steps t.world x) else record t { steps = t.steps + 1 }).world
 sized-if b l t x true s = sized-turn b l t.steps t.world x s
 sized-if b l t x false s = s
 

@@ -34,7 +34,8 @@ impl Model for Cluster {
 
     ghost view = { λ a. record { bricks = a.bricks.items; libraries = a.libraries.items; outboxes = a.outboxes.items; links = a.links.items; made = a.made } };
 
-    ghost invariant = { λ a. (length a.outboxes.items ≡ length a.bricks.items + length a.libraries.items) × (length a.links.items ≡ length a.bricks.items + length a.libraries.items) };
+    ghost invariant = { λ a. (length a.outboxes.items ≡ length a.bricks.items + length a.libraries.items)
+        × (length a.links.items ≡ length a.bricks.items + length a.libraries.items) };
 }
 
 impl Cluster {

@@ -2,7 +2,8 @@
 
 ghost use Rattle.std.specs.Prelude.{◌≡◌, ◌++◌, ◌&&◌, not, slice_get, IfOk, OnOk};
 ghost use Rattle.dds_base.specs.Op.{is_get};
-ghost use Rattle.dds_cluster.specs.Trace.{all_closed, asked_by, asked_in, closed_by, all_kept, is_applied, kept, next, opened_by, opened_in, opens, closes, replies_in, told_at, told_by};
+ghost use Rattle.dds_cluster.specs.Trace.{all_closed, asked_by, asked_in, closed_by, all_kept, is_applied, kept, next, opened_by};
+ghost use Rattle.dds_cluster.specs.Trace.{opened_in, opens, closes, replies_in, told_at, told_by};
 
 use crate::asked_list::AskedList;
 use crate::made_list::MadeList;

@@ -46,7 +46,8 @@ from-map B C (letter.LeaseRefused number why) f h = h
 from-map B C letter.Notice f h = h
 from-map B C other f h = tt
 
-pub all-from : (B C : Txn → ℕ → CallNo → Type 0) (ls : List (NodeNo × Letter)) → ((txn : Txn) (caller : ℕ) (call : CallNo) → B txn caller call → C txn caller call)
+pub all-from : (B C : Txn → ℕ → CallNo → Type 0) (ls : List (NodeNo × Letter)) →
+    ((txn : Txn) (caller : ℕ) (call : CallNo) → B txn caller call → C txn caller call)
     → AllFrom B ls → AllFrom C ls
 all-from B C ls f h = all-map (λ (p : NodeNo × Letter). FromLibrary B p.1) (λ p. FromLibrary C p.1) ls (λ p k. from-map B C p.1 f k) h
 

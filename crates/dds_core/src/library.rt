@@ -1,11 +1,14 @@
 //! What a library does: a call is opened, or a letter comes.
 
-ghost use Rattle.std.specs.Prelude.{◌≡◌, ◌<◌, ◌≤◌, ◌==◌, ◌+◌, [], ◌∷◌, ◌++◌, IfOk, OnOk, IfSome, OnSome, IfNone, Some, None, ◌^◌, length, position, option_to_list, slice_get, if◌then◌else◌};
+ghost use Rattle.std.specs.Prelude.{◌≡◌, ◌<◌, ◌≤◌, ◌==◌, ◌+◌, [], ◌∷◌, ◌++◌, IfOk, OnOk, IfSome, OnSome, IfNone, Some, None, ◌^◌, length};
+ghost use Rattle.std.specs.Prelude.{position, option_to_list, slice_get, if◌then◌else◌};
 ghost use Rattle.std.specs.FinMap as map;
 ghost use Rattle.std.specs.List.{remove};
 ghost use Rattle.dds_states.specs.Turn.{both};
 ghost use Rattle.dds_call_rows.specs.Library.{begin};
-ghost use Rattle.dds_core.specs.LibraryTurn.{least_attempt, desk_of, after_turn, replies_of, given, new_request, input_turn, library_input, call_row, call_place, put_back, call_turn, at_call, turn_of, turn_at, at_place, attempt_of, at_attempt, notice_calls, attempts, learns, notice_turn, live_library_turn, library_turn};
+ghost use Rattle.dds_core.specs.LibraryTurn.{least_attempt, desk_of, after_turn, replies_of, given, new_request, input_turn, library_input};
+ghost use Rattle.dds_core.specs.LibraryTurn.{call_row, call_place, put_back, call_turn, at_call, turn_of, turn_at, at_place, attempt_of};
+ghost use Rattle.dds_core.specs.LibraryTurn.{at_attempt, notice_calls, attempts, learns, notice_turn, live_library_turn, library_turn};
 
 use dds_base::items::Items;
 use dds_base::memory::Memory;

@@ -5,7 +5,9 @@ ghost use Rattle.dds_states.specs.declared.brick_state.OrderPhase.TheVariants.{L
 ghost use Rattle.dds_base.specs.BrickList.{has};
 ghost use Rattle.dds_base.specs.NodeSet.{has_node};
 ghost use Rattle.dds_brick_rows.specs.Resolution.{before, is_resolved};
-ghost use Rattle.dds_core.specs.Notice.{learns, is_lost, concerns_in, concerns, concerns_some, copies_again, order_goes, order_part, resolving_part, asked_again, asked_all_again, deferred_part, helped_by, pending_goes, numbered, pendings_go, pending_part, notice_row};
+ghost use Rattle.dds_core.specs.Notice.{learns, is_lost, concerns_in, concerns, concerns_some, copies_again, order_goes, order_part};
+ghost use Rattle.dds_core.specs.Notice.{resolving_part, asked_again, asked_all_again, deferred_part, helped_by, pending_goes, numbered};
+ghost use Rattle.dds_core.specs.Notice.{pendings_go, pending_part, notice_row};
 
 use dds_base::brick_list::BrickList;
 use dds_base::items::Items;

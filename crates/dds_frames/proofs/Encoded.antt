@@ -17,13 +17,16 @@ pub record Unmeasured (bytes : List ℕ) (letter : Letter) : Type 0 where
   pub range : IsInRange letter
   pub parts : bytes ≡ number_bytes 4 0 ++ body_of letter
 
-pub unmeasured : (a b c bytes : List ℕ) (letter : Letter) → a ≡ number_bytes 4 0 → b ≡ a ++ number_bytes 1 2 → c ≡ b ++ number_bytes 1 (tag_number (tag_of letter)) → bytes ≡ c ++ field_bytes letter → IsInRange letter →
+pub unmeasured : (a b c bytes : List ℕ) (letter : Letter) → a ≡ number_bytes 4 0 → b ≡ a ++ number_bytes 1 2 →
+    c ≡ b ++ number_bytes 1 (tag_number (tag_of letter)) → bytes ≡ c ++ field_bytes letter → IsInRange letter →
     Unmeasured bytes letter
 unmeasured a b c bytes letter p q r s range =
-    let u : c ≡ (number_bytes 4 0 ++ number_bytes 1 2) ++ number_bytes 1 (tag_number (tag_of letter)) = r ∙ ap (λ (t : List ℕ). t ++ number_bytes 1 (tag_number (tag_of letter))) (q ∙ ap (λ (t : List ℕ). t ++ number_bytes 1 2) p) in
+    let u : c ≡ (number_bytes 4 0 ++ number_bytes 1 2) ++ number_bytes 1 (tag_number (tag_of letter)) = r
+    ∙ ap (λ (t : List ℕ). t ++ number_bytes 1 (tag_number (tag_of letter))) (q ∙ ap (λ (t : List ℕ). t ++ number_bytes 1 2) p) in
     record {
       range = range;
-      parts = s ∙ ap (λ (t : List ℕ). t ++ field_bytes letter) u ∙ append_assoc (number_bytes 4 0 ++ number_bytes 1 2) (number_bytes 1 (tag_number (tag_of letter))) (field_bytes letter)
+      parts = s ∙ ap (λ (t : List ℕ). t ++ field_bytes letter) u
+          ∙ append_assoc (number_bytes 4 0 ++ number_bytes 1 2) (number_bytes 1 (tag_number (tag_of letter))) (field_bytes letter)
           ∙ append_assoc (number_bytes 4 0) (number_bytes 1 2) (number_bytes 1 (tag_number (tag_of letter)) ++ field_bytes letter);
     }
 
@@ -50,7 +53,8 @@ measured bytes new letter u e =
       same = e ∙ ap (λ (n : ℕ). number_bytes 4 n ++ drop 4 bytes) count ∙ ap (λ (t : List ℕ). number_bytes 4 (2 + length (field_bytes letter)) ++ t) rest;
     }
 
-pub encoded : (bytes new : List ℕ) (letter : Letter) (r : Result (List ℕ) Memory) → Unmeasured bytes letter → new ≡ number_bytes 4 (length bytes - 4) ++ drop 4 bytes → IfOk r (λ bytes. bytes ≡ new) →
+pub encoded : (bytes new : List ℕ) (letter : Letter) (r : Result (List ℕ) Memory) → Unmeasured bytes letter →
+    new ≡ number_bytes 4 (length bytes - 4) ++ drop 4 bytes → IfOk r (λ bytes. bytes ≡ new) →
     IfOk r (λ bytes. Spells bytes letter)
 encoded bytes new letter (Ok x) u e f = let s = measured bytes new letter u e in record { range = s.range; same = f ∙ s.same }
 encoded bytes new letter (Err fault) u e f = tt

@@ -1,5 +1,7 @@
 -- The frames of letters are exact.
-use Rattle.std.proofs.Common.{ℕ, suc, ◌≡◌, ◌+◌, ◌-◌, ◌<◌, ◌≤◌, ◌==◌, ◌||◌, Bool, true, false, cond, nat_lt, List, [], ◌∷◌, ◌++◌, length, take, drop, Option, Some, None, Result, Ok, Err, refl, sym, ◌∙◌, ap, subst, inl, inr, ◌⊎◌, arith, append_assoc, length-append, lit<}
+use Rattle.std.proofs.Common.{ℕ, suc, ◌≡◌, ◌+◌, ◌-◌, ◌<◌, ◌≤◌, ◌==◌, ◌||◌, Bool, true, false, cond, nat_lt, List, [], ◌∷◌, ◌++◌, length}
+use Rattle.std.proofs.Common.{take, drop, Option, Some, None, Result, Ok, Err, refl, sym, ◌∙◌, ap, subst, inl, inr, ◌⊎◌, arith}
+use Rattle.std.proofs.Common.{append_assoc, length-append, lit<}
 use Rattle.std.specs.Prelude.{IfOk}
 use Rattle.std.proofs.Math.Nat.{mod-eq_of_lt}
 use Rattle.std.proofs.Math.Seq.{take-add, drop-append_seam}
@@ -125,7 +127,8 @@ whole_sound end (Ok y) x e =
     let pair : (y.0, end) ≡ x = done-is (y.0, end) x g.1 in
     (ap (λ (rest : List ℕ). Ok (y.0, rest)) nothing ∙ ap (λ (p : Letter × ℕ). Ok (p.0, [])) pair, sym (ap (λ (p : Letter × ℕ). p.1) pair))
 
-tagged_sound : (end : ℕ) (o : Option Tag) (fields : List ℕ) (x : Letter × ℕ) → tagged end o fields ≡ Ok x → (tag : Tag) × (o ≡ Some tag) × (whole end (letter_at tag fields) ≡ Ok x)
+tagged_sound : (end : ℕ) (o : Option Tag) (fields : List ℕ) (x : Letter × ℕ) → tagged end o fields ≡ Ok x →
+    (tag : Tag) × (o ≡ Some tag) × (whole end (letter_at tag fields) ≡ Ok x)
 tagged_sound end None fields x e = absurd cc
 tagged_sound end (Some tag) fields x e = (tag, refl, e)
 
@@ -164,10 +167,12 @@ bytes-take n bytes b k =
 tests-are : (len long : ℕ) → (nat_lt len 2 || nat_lt 67108864 len) ≡ false → nat_lt long (4 + len) ≡ false → 4 + len ≤ long
 tests-are len long h k = ltb-false _ _ k
 
-framed_sound : (len : ℕ) (input : List ℕ) (x : Letter × ℕ) → AreBytes input → 4 ≤ length input → len ≡ big_number 4 input → framed len input ≡ Ok x → (x.1 ≤ length input) × Spells (take x.1 input) x.0
+framed_sound : (len : ℕ) (input : List ℕ) (x : Letter × ℕ) → AreBytes input → 4 ≤ length input → len ≡ big_number 4 input → framed len input ≡ Ok x →
+    (x.1 ≤ length input) × Spells (take x.1 input) x.0
 unfolding framed frame
 framed_sound len input x b long number e =
-    let g = passed (nat_lt len 2 || nat_lt 67108864 len) (BadLength 0) (cond (nat_lt (length input) (4 + len)) (Err Short) (versioned (4 + len) (take len (drop 4 input)))) x e in
+    let g = passed (nat_lt len 2 || nat_lt 67108864 len) (BadLength 0)
+    (cond (nat_lt (length input) (4 + len)) (Err Short) (versioned (4 + len) (take len (drop 4 input)))) x e in
     let h = passed (nat_lt (length input) (4 + len)) Short (versioned (4 + len) (take len (drop 4 input))) x g.1 in
     let enough = tests-are len (length input) g.0 h.0 in
     let v = versioned_sound (4 + len) (take len (drop 4 input)) x (bytes-take len (drop 4 input) (bytes-drop 4 input b)) h.1 in
@@ -176,7 +181,8 @@ framed_sound len input x b long number e =
     let size : length (take len (drop 4 input)) ≡ 2 + length (field_bytes x.0) = omega (arith, ap length (v.1 ∙ body-is x.0)) in
     let same : len ≡ 2 + length (field_bytes x.0) = sym count ∙ size in
     let parts : take (4 + len) input ≡ number_bytes 4 (2 + length (field_bytes x.0)) ++ body_of x.0 =
-    take-add 4 len input ∙ ap (λ (t : List ℕ). t ++ take len (drop 4 input)) (front ∙ ap (number_bytes 4) same) ∙ ap (λ (t : List ℕ). number_bytes 4 (2 + length (field_bytes x.0)) ++ t) v.1 in
+    take-add 4 len input ∙ ap (λ (t : List ℕ). t ++ take len (drop 4 input)) (front ∙ ap (number_bytes 4) same)
+    ∙ ap (λ (t : List ℕ). number_bytes 4 (2 + length (field_bytes x.0)) ++ t) v.1 in
     (omega (arith, v.2, enough), record { range = v.0; same = ap (λ (n : ℕ). take n input) v.2 ∙ parts })
 
 pub decoded_sound : (input : List ℕ) (x : Letter × ℕ) → AreBytes input → decoded input ≡ Ok x → (x.1 ≤ length input) × Spells (take x.1 input) x.0
@@ -198,7 +204,8 @@ length-frame letter =
 versioned_again : (end : ℕ) (letter : Letter) → IsInRange letter → versioned end (body_of letter) ≡ Ok (letter, end)
 unfolding versioned
 versioned_again end letter r =
-    let e : letter_at (tag_of letter) (field_bytes letter) ≡ Ok (letter, []) = ap (letter_at (tag_of letter)) (sym (append-nil (field_bytes letter))) ∙ letter_again letter [] r in
+    let e : letter_at (tag_of letter) (field_bytes letter) ≡ Ok (letter, []) = ap (letter_at (tag_of letter)) (sym (append-nil (field_bytes letter)))
+    ∙ letter_again letter [] r in
     let t = tag-again (tag_of letter) in
     ap (versioned end) (body-is letter) ∙ rw (t, e) refl
 
@@ -210,15 +217,18 @@ unfolding decoded framed frame
 decoded_again letter rest r =
     let len : ℕ = 2 + length (field_bytes letter) in
     let short : 2 + length (field_bytes letter) ≤ 67108864 = omega (arith, fields-short letter r) in
-    let regrouped : frame letter ++ rest ≡ number_bytes 4 (2 + length (field_bytes letter)) ++ (body_of letter ++ rest) = append_assoc (number_bytes 4 (2 + length (field_bytes letter))) (body_of letter) rest in
+    let regrouped : frame letter ++ rest ≡ number_bytes 4 (2 + length (field_bytes letter))
+    ++ (body_of letter ++ rest) = append_assoc (number_bytes 4 (2 + length (field_bytes letter))) (body_of letter) rest in
     let n4 = length-number 4 (2 + length (field_bytes letter)) in
     let body : length (body_of letter) ≡ 2 + length (field_bytes letter) = omega (arith, ap length (body-is letter)) in
     let size = length-append (number_bytes 4 (2 + length (field_bytes letter))) (body_of letter ++ rest) in
     let size2 = length-append (body_of letter) rest in
-    let long : nat_lt (length (number_bytes 4 (2 + length (field_bytes letter)) ++ (body_of letter ++ rest))) 4 ≡ false = le-ltb _ _ (omega (arith, n4, size)) in
+    let long : nat_lt (length (number_bytes 4 (2 + length (field_bytes letter)) ++ (body_of letter ++ rest))) 4 ≡ false =
+    le-ltb _ _ (omega (arith, n4, size)) in
     let number = number-back 4 (2 + length (field_bytes letter)) (body_of letter ++ rest) (omega (arith, short)) in
     let accepted = not-refused (2 + length (field_bytes letter)) (omega arith) short in
-    let there : nat_lt (length (number_bytes 4 (2 + length (field_bytes letter)) ++ (body_of letter ++ rest))) (4 + (2 + length (field_bytes letter))) ≡ false = le-ltb _ _ (omega (arith, n4, size, size2, body)) in
+    let there : nat_lt (length (number_bytes 4 (2 + length (field_bytes letter)) ++ (body_of letter ++ rest))) (4 + (2 + length (field_bytes letter)))
+    ≡ false = le-ltb _ _ (omega (arith, n4, size, size2, body)) in
     let behind = drop_at (number_bytes 4 (2 + length (field_bytes letter))) (body_of letter ++ rest) 4 n4 in
     let front = take_at (body_of letter) rest (2 + length (field_bytes letter)) body in
     let v = versioned_again (4 + (2 + length (field_bytes letter))) letter r in
@@ -228,17 +238,20 @@ decoded_again letter rest r =
 -- bytes whose front spells a letter
 pub decoded_only : (input : List ℕ) (letter : Letter) (end : ℕ) → end ≤ length input → Spells (take end input) letter → decoded input ≡ Ok (letter, end)
 decoded_only input letter end within spells =
-    let size : length (frame letter) ≡ end = ap length (sym spells.same) ∙ (let h : length (take end input) ≡ end = omega (arith, length-take end input, within) in h) in
+    let size : length (frame letter) ≡ end = ap length (sym spells.same)
+    ∙ (let h : length (take end input) ≡ end = omega (arith, length-take end input, within) in h) in
     let parts : input ≡ frame letter ++ drop end input = sym (take-append-drop end input) ∙ ap (λ (t : List ℕ). t ++ drop end input) spells.same in
     ap decoded parts ∙ decoded_again letter (drop end input) spells.range ∙ ap (λ (n : ℕ). Ok (letter, n)) size
 
 -- ---- what a function returned
 
-pub was-spelled : (input : List ℕ) (r : Result (Letter × ℕ) FrameFault) → AreBytes input → DecodesAs r (decoded input) → IfOk r (λ read. (read.1 ≤ length input) × Spells (take read.1 input) read.0)
+pub was-spelled : (input : List ℕ) (r : Result (Letter × ℕ) FrameFault) → AreBytes input → DecodesAs r (decoded input) →
+    IfOk r (λ read. (read.1 ≤ length input) × Spells (take read.1 input) read.0)
 was-spelled input (Ok x) b e = decoded_sound input x b e
 was-spelled input (Err fault) b e = tt
 
-pub is-read : (input : List ℕ) (r : Result (Letter × ℕ) FrameFault) (letter : Letter) (end : ℕ) → DecodesAs r (decoded input) → end ≤ length input → Spells (take end input) letter → DecodesAs r (Ok (letter, end))
+pub is-read : (input : List ℕ) (r : Result (Letter × ℕ) FrameFault) (letter : Letter) (end : ℕ) → DecodesAs r (decoded input) → end ≤ length input →
+    Spells (take end input) letter → DecodesAs r (Ok (letter, end))
 is-read input r letter end e within spells = subst (λ (d : Result (Letter × ℕ) FrameFault). DecodesAs r d) (decoded_only input letter end within spells) e
 
 -- ---- spellings are apart

@@ -12,8 +12,10 @@ use Rattle.dds_letters.specs.declared.refusal.Ballot.TheVariants.{Yes, No}
 use Rattle.dds_letters.specs.declared.refusal.Wanted.{Wanted}
 use Rattle.dds_letters.specs.declared.refusal.Wanted.TheVariants as wants
 use Rattle.dds_frames.specs.Ranges.{IsLeaf, IfThere, IsRefusal, IsDenial, IsAnswer, IsBallot, IsWanted}
-use Rattle.dds_frames.specs.Spelling.{number_bytes, leaf_bytes, maybe_leaf_bytes, refusal_bytes, denial_bytes, value_bytes, answer_bytes, ballot_bytes, name_bytes, wanted_bytes}
-use Rattle.dds_frames.specs.Parts.{leaf_at, maybe_leaf_at, refusal_at, refusal_kinds, denial_at, denial_kinds, answer_at, answer_kinds, ballot_at, ballot_kinds, wanted_at, wanted_kinds}
+use Rattle.dds_frames.specs.Spelling.{number_bytes, leaf_bytes, maybe_leaf_bytes, refusal_bytes, denial_bytes, value_bytes, answer_bytes}
+use Rattle.dds_frames.specs.Spelling.{ballot_bytes, name_bytes, wanted_bytes}
+use Rattle.dds_frames.specs.Parts.{leaf_at, maybe_leaf_at, refusal_at, refusal_kinds, denial_at, denial_kinds, answer_at, answer_kinds}
+use Rattle.dds_frames.specs.Parts.{ballot_at, ballot_kinds, wanted_at, wanted_kinds}
 use Rattle.dds_frames.proofs.Exact.{Exact, ◌&&&◌, made_again, made_behind, made_exact, kind_again, kind_alone, kind_exact, kind_behind}
 use Rattle.dds_frames.proofs.ExactParts.{word_exact, name_exact, stamp_exact, optional_exact, value_exact}
 use Rattle.dds_frames.proofs.ExactLists.{group_exact}
@@ -36,7 +38,8 @@ refusal_again : (x : Refusal) (rest : List ℕ) → IsRefusal x → refusal_at (
 unfolding refusal_at refusal_bytes
 refusal_again refusals.Lease rest f = kind_alone refusal_kinds 1 rest (lit< tt)
 refusal_again refusals.Lock rest f = kind_alone refusal_kinds 2 rest (lit< tt)
-refusal_again (refusals.Stale leaf) rest f = kind_again refusal_kinds 3 (maybe_leaf_bytes leaf) rest (lit< tt) ∙ made_again maybe_leaf_exact refusals.Stale leaf rest f
+refusal_again (refusals.Stale leaf) rest f = kind_again refusal_kinds 3 (maybe_leaf_bytes leaf) rest (lit< tt)
+    ∙ made_again maybe_leaf_exact refusals.Stale leaf rest f
 
 pub refusal_exact : Exact IsRefusal refusal_bytes refusal_at
 unfolding refusal_at refusal_bytes
@@ -55,7 +58,8 @@ unfolding denial_at denial_bytes refusal_bytes
 denial_again (denials.Refused refusals.Lease) rest f = kind_alone denial_kinds 1 rest (lit< tt)
 denial_again (denials.Refused refusals.Lock) rest f = kind_alone denial_kinds 2 rest (lit< tt)
 denial_again (denials.Refused (refusals.Stale leaf)) rest f =
-    kind_again denial_kinds 3 (maybe_leaf_bytes leaf) rest (lit< tt) ∙ made_again maybe_leaf_exact (λ (leaf : Option Leaf). denials.Refused (refusals.Stale leaf)) leaf rest f
+    kind_again denial_kinds 3 (maybe_leaf_bytes leaf) rest (lit< tt)
+    ∙ made_again maybe_leaf_exact (λ (leaf : Option Leaf). denials.Refused (refusals.Stale leaf)) leaf rest f
 denial_again denials.Full rest f = kind_alone denial_kinds 4 rest (lit< tt)
 
 pub denial_exact : Exact IsDenial denial_bytes denial_at
@@ -66,7 +70,8 @@ denial_exact =
       (
         kind_behind {fb = IsDenial} {sb = denial_bytes} (number_bytes 1 2) (denials.Refused refusals.Lock) refl tt,
         (
-          made_behind {fb = IsDenial} {sb = denial_bytes} (number_bytes 1 3) maybe_leaf_exact (λ (leaf : Option Leaf). denials.Refused (refusals.Stale leaf)) (λ a. refl) (λ a f. f),
+          made_behind {fb = IsDenial} {sb = denial_bytes} (number_bytes 1 3) maybe_leaf_exact (λ (leaf : Option Leaf). denials.Refused (refusals.Stale leaf))
+              (λ a. refl) (λ a f. f),
           (kind_behind {fb = IsDenial} {sb = denial_bytes} (number_bytes 1 4) denials.Full refl tt, tt),
         ),
       ),
@@ -77,7 +82,8 @@ answer_again : (x : Answer) (rest : List ℕ) → IsAnswer x → answer_at (answ
 unfolding answer_at answer_bytes
 answer_again answers.Absent rest f = kind_alone answer_kinds 0 rest (lit< tt)
 answer_again (answers.Value value) rest f = kind_again answer_kinds 1 (value_bytes value) rest (lit< tt) ∙ made_again value_exact answers.Value value rest f
-answer_again (answers.Refused refusal) rest f = kind_again answer_kinds 2 (refusal_bytes refusal) rest (lit< tt) ∙ made_again refusal_exact answers.Refused refusal rest f
+answer_again (answers.Refused refusal) rest f = kind_again answer_kinds 2 (refusal_bytes refusal) rest (lit< tt)
+    ∙ made_again refusal_exact answers.Refused refusal rest f
 
 pub answer_exact : Exact IsAnswer answer_bytes answer_at
 unfolding answer_at answer_bytes

@@ -22,9 +22,13 @@ use Rattle.dds_letters.specs.declared.refusal.Ballot.TheVariants.{Yes, No}
 use Rattle.dds_letters.specs.declared.refusal.Wanted.{Wanted}
 use Rattle.dds_letters.specs.declared.refusal.Wanted.TheVariants as wants
 use Rattle.dds_letters.specs.declared.letter.Letter.{Letter}
-use Rattle.dds_letters.specs.declared.letter.Letter.TheVariants.{Get, Prepare, Commit, Abort, Push, MapAsk, Got, Vote, Applied, Aborted, MapTell, Help, Query, Status, Outcome, Lease, Granted, LeaseRefused, Release, CopyAsk, CopyPart, Install, Installed, Notice}
+use Rattle.dds_letters.specs.declared.letter.Letter.TheVariants.{Get, Prepare, Commit, Abort, Push, MapAsk, Got, Vote, Applied, Aborted}
+use Rattle.dds_letters.specs.declared.letter.Letter.TheVariants.{MapTell, Help, Query, Status, Outcome, Lease, Granted, LeaseRefused}
+use Rattle.dds_letters.specs.declared.letter.Letter.TheVariants.{Release, CopyAsk, CopyPart, Install, Installed, Notice}
 use Rattle.dds_frames.specs.Ranges.{IsGroup, IsValue, IsUpdate, IsLeaf, IfThere, IsRefusal, IsDenial, IsAnswer, IsBallot, IsWanted, IsPair, ArePairs, AreCopied}
-use Rattle.dds_frames.specs.Spelling.{number_bytes, flag_bytes, txn_bytes, name_bytes, stamp_bytes, group_bytes, leaf_bytes, maybe_leaf_bytes, after_bytes, value_bytes, update_bytes, refusal_bytes, denial_bytes, answer_bytes, ballot_bytes, status_bytes, wanted_bytes, pair_bytes, pairs_bytes}
+use Rattle.dds_frames.specs.Spelling.{number_bytes, flag_bytes, txn_bytes, name_bytes, stamp_bytes, group_bytes, leaf_bytes}
+use Rattle.dds_frames.specs.Spelling.{maybe_leaf_bytes, after_bytes, value_bytes, update_bytes, refusal_bytes, denial_bytes, answer_bytes}
+use Rattle.dds_frames.specs.Spelling.{ballot_bytes, status_bytes, wanted_bytes, pair_bytes, pairs_bytes}
 use Rattle.dds_frames.specs.Letters.{field_bytes, IsInRange}
 use Rattle.dds_frames.proofs.Numbers.{length-number}
 
@@ -70,7 +74,9 @@ group-short bricks h = joined-short _ _ 1 8 (number-short 1 (length bricks)) (om
 leaf-short : (l : Leaf) → IsLeaf l → length (leaf_bytes l) ≤ 38
 unfolding leaf_bytes
 leaf-short l h =
-    joined-short _ _ 3 35 (name-short l.name) (joined-short _ _ 8 27 (number-short 8 l.epoch) (joined-short _ _ 9 18 (stamp-short l.stamp) (joined-short _ _ 9 9 (stamp-short l.prev) (group-short l.list h.list))))
+    joined-short _ _ 3 35 (name-short l.name)
+    (joined-short _ _ 8 27 (number-short 8 l.epoch)
+    (joined-short _ _ 9 18 (stamp-short l.stamp) (joined-short _ _ 9 9 (stamp-short l.prev) (group-short l.list h.list))))
 
 maybe-leaf-short : (l : Option Leaf) → IfThere IsLeaf l → length (maybe_leaf_bytes l) ≤ 39
 unfolding maybe_leaf_bytes
@@ -89,10 +95,14 @@ value-short value h = joined-short _ _ 2 60000 (number-short 2 (length value)) h
 update-short : (op : Op) → IsUpdate op → length (update_bytes op) ≤ 120013
 unfolding update_bytes
 update-short (GetOp key) h = absurd h
-update-short (Put key value) h = omega (arith, joined-short _ _ 1 60010 (number-short 1 1) (joined-short _ _ 8 60002 (number-short 8 key) (value-short value h.1)))
+update-short (Put key value) h = omega (
+  arith,
+  joined-short _ _ 1 60010 (number-short 1 1) (joined-short _ _ 8 60002 (number-short 8 key) (value-short value h.1)),
+)
 update-short (Remove key) h = omega (arith, joined-short _ _ 1 8 (number-short 1 2) (number-short 8 key))
 update-short (Swap key expected value) h =
-    joined-short _ _ 1 120012 (number-short 1 3) (joined-short _ _ 8 120004 (number-short 8 key) (joined-short _ _ 60002 60002 (value-short expected h.1.0) (value-short value h.1.1)))
+    joined-short _ _ 1 120012 (number-short 1 3)
+    (joined-short _ _ 8 120004 (number-short 8 key) (joined-short _ _ 60002 60002 (value-short expected h.1.0) (value-short value h.1.1)))
 
 refusal-short : (x : Refusal) → IsRefusal x → length (refusal_bytes x) ≤ 40
 unfolding refusal_bytes
@@ -146,12 +156,34 @@ pairs-short pairs h = joined-short _ _ 2 1920320 (number-short 2 (length pairs))
 
 -- the fields of a letter have room in a frame
 pub fields-short : (letter : Letter) → IsInRange letter → length (field_bytes letter) ≤ 67108862
-fields-short (Get txn caller call key name stamp) h = omega (arith, (joined-short _ _ 9 25 (txn-short txn) (joined-short _ _ 1 24 (number-short 1 caller) (joined-short _ _ 4 20 (number-short 4 call.0) (joined-short _ _ 8 12 (number-short 8 key) (joined-short _ _ 3 9 (name-short name) (stamp-short stamp)))))))
-fields-short (Prepare txn caller call below name stamp list op) h = omega (arith, (joined-short _ _ 9 120047 (txn-short txn) (joined-short _ _ 1 120046 (number-short 1 caller) (joined-short _ _ 4 120042 (number-short 4 call.0) (joined-short _ _ 8 120034 (number-short 8 below) (joined-short _ _ 3 120031 (name-short name) (joined-short _ _ 9 120022 (stamp-short stamp) (joined-short _ _ 9 120013 (group-short list h.1.1.1.1.1.1.0) (update-short op h.1.1.1.1.1.1.1)))))))))
+fields-short (Get txn caller call key name stamp) h =
+    omega (
+      arith,
+      (joined-short _ _ 9 25 (txn-short txn)
+          (joined-short _ _ 1 24 (number-short 1 caller)
+          (joined-short _ _ 4 20 (number-short 4 call.0)
+          (joined-short _ _ 8 12 (number-short 8 key) (joined-short _ _ 3 9 (name-short name) (stamp-short stamp)))))),
+    )
+fields-short (Prepare txn caller call below name stamp list op) h =
+    omega (
+      arith,
+      (joined-short _ _ 9 120047 (txn-short txn)
+          (joined-short _ _ 1 120046 (number-short 1 caller)
+          (joined-short _ _ 4 120042 (number-short 4 call.0)
+          (joined-short _ _ 8 120034 (number-short 8 below)
+          (joined-short _ _ 3 120031 (name-short name)
+          (joined-short _ _ 9 120022 (stamp-short stamp)
+          (joined-short _ _ 9 120013 (group-short list h.1.1.1.1.1.1.0) (update-short op h.1.1.1.1.1.1.1)))))))),
+    )
 fields-short (Commit txn) h = omega (arith, (txn-short txn))
 fields-short (Abort txn) h = omega (arith, (txn-short txn))
 fields-short (Push leaf) h = omega (arith, (leaf-short leaf h))
-fields-short (MapAsk txn caller call key) h = omega (arith, (joined-short _ _ 9 13 (txn-short txn) (joined-short _ _ 1 12 (number-short 1 caller) (joined-short _ _ 4 8 (number-short 4 call.0) (number-short 8 key)))))
+fields-short (MapAsk txn caller call key) h =
+    omega (
+      arith,
+      (joined-short _ _ 9 13 (txn-short txn)
+          (joined-short _ _ 1 12 (number-short 1 caller) (joined-short _ _ 4 8 (number-short 4 call.0) (number-short 8 key)))),
+    )
 fields-short (Got txn answer) h = omega (arith, (joined-short _ _ 9 60003 (txn-short txn) (answer-short answer h.1)))
 fields-short (Vote txn vote) h = omega (arith, (joined-short _ _ 9 41 (txn-short txn) (ballot-short vote h.1)))
 fields-short (Applied txn was) h = omega (arith, (joined-short _ _ 9 1 (txn-short txn) (flag-short was)))
@@ -165,8 +197,10 @@ fields-short (Lease order what) h = omega (arith, (joined-short _ _ 8 39 (number
 fields-short (Granted order leaf) h = omega (arith, (joined-short _ _ 8 38 (number-short 8 order) (leaf-short leaf h.1)))
 fields-short (LeaseRefused order refusal) h = omega (arith, (joined-short _ _ 8 40 (number-short 8 order) (refusal-short refusal h.1)))
 fields-short (Release order name) h = omega (arith, (joined-short _ _ 8 3 (number-short 8 order) (name-short name)))
-fields-short (CopyAsk order name after) h = omega (arith, (joined-short _ _ 8 12 (number-short 8 order) (joined-short _ _ 3 9 (name-short name) (after-short after))))
-fields-short (CopyPart order last pairs) h = omega (arith, (joined-short _ _ 8 1920323 (number-short 8 order) (joined-short _ _ 1 1920322 (flag-short last) (pairs-short pairs h.1.1))))
+fields-short (CopyAsk order name after) h =
+    omega (arith, (joined-short _ _ 8 12 (number-short 8 order) (joined-short _ _ 3 9 (name-short name) (after-short after))))
+fields-short (CopyPart order last pairs) h =
+    omega (arith, (joined-short _ _ 8 1920323 (number-short 8 order) (joined-short _ _ 1 1920322 (flag-short last) (pairs-short pairs h.1.1))))
 fields-short (Install order leaf) h = omega (arith, (joined-short _ _ 8 38 (number-short 8 order) (leaf-short leaf h.1)))
 fields-short (Installed order name) h = omega (arith, (joined-short _ _ 8 3 (number-short 8 order) (name-short name)))
 fields-short Notice h = omega arith

@@ -9,7 +9,8 @@ use Rattle.dds_frames.specs.Reading.{Reading, FailsAs, tested_at}
 use Rattle.dds_frames.specs.Parts.{bricks_at, pair_at, pairs_from}
 
 -- one brick more
-pub bricks-more : (n i : ℕ) (bricks bytes rest : List ℕ) (brick : ℕ) (total : Reading (List ℕ)) → i < n → tested_at 1 (λ b. nat_lt b 64 && not (has bricks b)) bytes ≡ Ok (brick, rest) →
+pub bricks-more : (n i : ℕ) (bricks bytes rest : List ℕ) (brick : ℕ) (total : Reading (List ℕ)) → i < n →
+    tested_at 1 (λ b. nat_lt b 64 && not (has bricks b)) bytes ≡ Ok (brick, rest) →
     bricks_at (n - i) bricks bytes ≡ total → bricks_at (n - (i + 1)) (bricks ++ brick ∷ []) rest ≡ total
 unfolding bricks_at
 bricks-more n i bricks bytes rest brick total below read e =
@@ -18,7 +19,8 @@ bricks-more n i bricks bytes rest brick total below read e =
     sym one ∙ e
 
 -- a brick that is refused
-pub bricks-fail : (fault : FieldFault) (n i : ℕ) (bricks bytes : List ℕ) (total : Reading (List ℕ)) → i < n → FailsAs fault (tested_at 1 (λ b. nat_lt b 64 && not (has bricks b)) bytes) →
+pub bricks-fail : (fault : FieldFault) (n i : ℕ) (bricks bytes : List ℕ) (total : Reading (List ℕ)) → i < n →
+    FailsAs fault (tested_at 1 (λ b. nat_lt b 64 && not (has bricks b)) bytes) →
     bricks_at (n - i) bricks bytes ≡ total → FailsAs fault total
 unfolding bricks_at
 bricks-fail Memory n i bricks bytes total below read e = tt
@@ -41,7 +43,8 @@ last-push after [] pair = refl
 last-push after (p ∷ pairs) pair = last-push (Some p.key) pairs pair
 
 -- one pair more
-pub pairs-more : (n i : ℕ) (pairs : List Pair) (bytes rest : List ℕ) (pair : Pair) (total : Reading (List Pair)) → i < n → pair_at (last_key None pairs) bytes ≡ Ok (pair, rest) →
+pub pairs-more : (n i : ℕ) (pairs : List Pair) (bytes rest : List ℕ) (pair : Pair) (total : Reading (List Pair)) → i < n →
+    pair_at (last_key None pairs) bytes ≡ Ok (pair, rest) →
     pairs_from (n - i) pairs bytes ≡ total → pairs_from (n - (i + 1)) (pairs ++ pair ∷ []) rest ≡ total
 unfolding pairs_from
 pairs-more n i pairs bytes rest pair total below read e =
@@ -50,7 +53,8 @@ pairs-more n i pairs bytes rest pair total below read e =
     sym one ∙ e
 
 -- a pair that is refused
-pub pairs-fail : (fault : FieldFault) (n i : ℕ) (pairs : List Pair) (bytes : List ℕ) (total : Reading (List Pair)) → i < n → FailsAs fault (pair_at (last_key None pairs) bytes) →
+pub pairs-fail : (fault : FieldFault) (n i : ℕ) (pairs : List Pair) (bytes : List ℕ) (total : Reading (List Pair)) → i < n →
+    FailsAs fault (pair_at (last_key None pairs) bytes) →
     pairs_from (n - i) pairs bytes ≡ total → FailsAs fault total
 unfolding pairs_from
 pairs-fail Memory n i pairs bytes total below read e = tt
@@ -60,7 +64,8 @@ pairs-fail (Refused left) n i pairs bytes total below read e =
     sym e ∙ one
 
 -- all pairs
-pub pairs-done : (n i : ℕ) (pairs : List Pair) (bytes : List ℕ) (total : Reading (List Pair)) → n ≤ i → pairs_from (n - i) pairs bytes ≡ total → total ≡ Ok (pairs, bytes)
+pub pairs-done : (n i : ℕ) (pairs : List Pair) (bytes : List ℕ) (total : Reading (List Pair)) → n ≤ i → pairs_from (n - i) pairs bytes ≡ total →
+    total ≡ Ok (pairs, bytes)
 unfolding pairs_from
 pairs-done n i pairs bytes total past e =
     let k : n - i ≡ 0 = omega arith in

@@ -28,7 +28,8 @@ bytes-below (suc n) q r =
     let f : q * 256 ^ suc n ≡ q * 256 * 256 ^ n = ap (λ (p : ℕ). q * p) (pow-succ' 256 n) ∙ shuffle-more q (256 ^ n) in
     let d = mul-add-div (above-zero n) (q * 256) r in
     let head : byte_at n (q * 256 ^ suc n + r) ≡ byte_at n r =
-    byte-is n (q * 256 ^ suc n + r) ∙ ap (λ (y : ℕ). (y + r) / 256 ^ n % 256) e ∙ ap (λ (y : ℕ). y % 256) d ∙ mul-add-mod_self_right q 256 (r / 256 ^ n) ∙ sym (byte-is n r) in
+    byte-is n (q * 256 ^ suc n + r) ∙ ap (λ (y : ℕ). (y + r) / 256 ^ n % 256) e ∙ ap (λ (y : ℕ). y % 256) d ∙ mul-add-mod_self_right q 256 (r / 256 ^ n)
+    ∙ sym (byte-is n r) in
     let tail : bytes_high_first n (q * 256 ^ suc n + r) ≡ bytes_high_first n r = ap (λ (y : ℕ). bytes_high_first n (y + r)) f ∙ bytes-below n (q * 256) r in
     λ i. head i ∷ tail i
 

@@ -1,5 +1,6 @@
 -- A fault of a field stands within its frame.
-use Rattle.std.proofs.Common.{ℕ, ◌≡◌, ◌+◌, ◌-◌, ◌≤◌, ◌==◌, ◌||◌, ◌⊎◌, Bool, true, false, nat_lt, List, [], ◌∷◌, length, take, drop, Option, Some, None, Result, Ok, Err, refl, sym, ◌∙◌, inl, inr, suc, subst, arith}
+use Rattle.std.proofs.Common.{ℕ, ◌≡◌, ◌+◌, ◌-◌, ◌≤◌, ◌==◌, ◌||◌, ◌⊎◌, Bool, true, false, nat_lt, List, [], ◌∷◌, length, take, drop, Option}
+use Rattle.std.proofs.Common.{Some, None, Result, Ok, Err, refl, sym, ◌∙◌, inl, inr, suc, subst, arith}
 use Rattle.std.proofs.lemmas.Bool.{ltb-false}
 use Rattle.std.proofs.lemmas.List.{length-take}
 use Rattle.byteorder.specs.Endian.{big_number}
@@ -25,10 +26,12 @@ either false = inr refl
 pub refused-within : (tag : Tag) (bytes : List ℕ) (left : ℕ) → AreBytes bytes → letter_at tag bytes ≡ Err left → left ≤ length bytes
 refused-within tag bytes left b e = (letter_behind tag).within bytes left b e
 
-pub left-within : (tag : Tag) (bytes : List ℕ) (letter : Letter) (rest : List ℕ) → AreBytes bytes → letter_at tag bytes ≡ Ok (letter, rest) → length rest ≤ length bytes
+pub left-within : (tag : Tag) (bytes : List ℕ) (letter : Letter) (rest : List ℕ) → AreBytes bytes → letter_at tag bytes ≡ Ok (letter, rest) →
+    length rest ≤ length bytes
 left-within tag bytes letter rest b e = rest-within (IsOf tag) field_bytes bytes letter rest ((letter_behind tag).sound bytes letter rest b e)
 
-whole_place : (end n : ℕ) (r : Reading Letter) (at : ℕ) → n + 6 ≤ end → ((left : ℕ) → r ≡ Err left → left ≤ n) → ((x : Letter × List ℕ) → r ≡ Ok x → length x.1 ≤ n) → whole end r ≡ Err (BadField at) → (6 ≤ at) × (at ≤ end)
+whole_place : (end n : ℕ) (r : Reading Letter) (at : ℕ) → n + 6 ≤ end → ((left : ℕ) → r ≡ Err left → left ≤ n) →
+    ((x : Letter × List ℕ) → r ≡ Ok x → length x.1 ≤ n) → whole end r ≡ Err (BadField at) → (6 ≤ at) × (at ≤ end)
 whole_place end n (Err left) at room refused there e =
     let same : end - left ≡ at = cc in
     let few = refused left refl in
@@ -43,7 +46,8 @@ whole_place end n (Ok x) at room refused there e =
           (omega arith, omega arith)
     ]
 
-tagged_place : (end : ℕ) (o : Option Tag) (fields : List ℕ) (at : ℕ) → AreBytes fields → length fields + 6 ≤ end → tagged end o fields ≡ Err (BadField at) → (6 ≤ at) × (at ≤ end)
+tagged_place : (end : ℕ) (o : Option Tag) (fields : List ℕ) (at : ℕ) → AreBytes fields → length fields + 6 ≤ end → tagged end o fields ≡ Err (BadField at) →
+    (6 ≤ at) × (at ≤ end)
 tagged_place end None fields at b room e = absurd cc
 tagged_place end (Some tag) fields at b room e =
     whole_place end (length fields) (letter_at tag fields) at room (λ left h. refused-within tag fields left b h) (λ x h. left-within tag fields x.0 x.1 b h) e
@@ -68,7 +72,8 @@ framed_place len input at b e = elim (either (nat_lt len 2 || nat_lt 67108864 le
     | inr k ↦
         let enough : 4 + len ≤ length input = ltb-false _ _ k in
         let f : framed len input ≡ versioned (4 + len) (take len (drop 4 input)) = rw (h, k) refl in
-        let p = versioned_place (4 + len) (take len (drop 4 input)) at (bytes-take len (drop 4 input) (bytes-drop 4 input b)) (omega (arith, length-take len (drop 4 input))) (sym f ∙ e) in
+        let p = versioned_place (4 + len) (take len (drop 4 input)) at (bytes-take len (drop 4 input) (bytes-drop 4 input b))
+        (omega (arith, length-take len (drop 4 input))) (sym f ∙ e) in
         (p.0, omega (arith, p.1))
   ]
 ]
@@ -81,5 +86,6 @@ decoded_place input at b e = elim (either (nat_lt (length input) 4)) [
 ]
 
 -- of what a function returned
-pub is-placed : (input : List ℕ) (r : Result (Letter × ℕ) FrameFault) (at : ℕ) → AreBytes input → DecodesAs r (decoded input) → r ≡ Err (BadField at) → (6 ≤ at) × (at ≤ length input)
+pub is-placed : (input : List ℕ) (r : Result (Letter × ℕ) FrameFault) (at : ℕ) → AreBytes input → DecodesAs r (decoded input) → r ≡ Err (BadField at) →
+    (6 ≤ at) × (at ≤ length input)
 is-placed input r at b e f = decoded_place input at b (subst (λ (q : Result (Letter × ℕ) FrameFault). DecodesAs q (decoded input)) f e)

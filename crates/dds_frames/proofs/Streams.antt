@@ -1,5 +1,7 @@
 -- A stream of frames, in whatever pieces it comes.
-use Rattle.std.proofs.Common.{ℕ, ◌≡◌, ◌+◌, ◌-◌, ◌≤◌, ◌==◌, ◌||◌, ◌⊎◌, Bool, true, false, nat_lt, List, [], ◌∷◌, ◌++◌, length, take, drop, Option, Some, None, Result, Ok, Err, refl, sym, ◌∙◌, ap, subst, inl, inr, arith, append_assoc, length-append, length-drop}
+use Rattle.std.proofs.Common.{ℕ, ◌≡◌, ◌+◌, ◌-◌, ◌≤◌, ◌==◌, ◌||◌, ◌⊎◌, Bool, true, false, nat_lt, List, [], ◌∷◌, ◌++◌, length, take, drop}
+use Rattle.std.proofs.Common.{Option, Some, None, Result, Ok, Err, refl, sym, ◌∙◌, ap, subst, inl, inr, arith, append_assoc, length-append}
+use Rattle.std.proofs.Common.{length-drop}
 use Rattle.std.specs.List.{flat_map, AllByRecursion}
 use Rattle.std.proofs.Math.Seq.{drop-append_seam, take-append_seam}
 use Rattle.std.proofs.lemmas.Bool.{ltb-false, le-ltb}
@@ -112,33 +114,47 @@ record Stepped (old : Held) (answer : Result (Option Letter) FrameFault) (new : 
   pub whole : old.bytes ≡ flat_map frame (letter_of answer) ++ new.bytes
   pub fault : FaultStands new.bytes new.fault
 
-unchanged : (old new : Held) (answer : Result (Option Letter) FrameFault) → letter_of answer ≡ [] → FaultStands old.bytes old.fault → new ≡ old → Stepped old answer new
+unchanged : (old new : Held) (answer : Result (Option Letter) FrameFault) → letter_of answer ≡ [] → FaultStands old.bytes old.fault → new ≡ old →
+    Stepped old answer new
 unchanged old new answer none h e =
-    subst (λ (held : Held). Stepped old answer held) (sym e) record { range = subst (λ (ls : List Letter). AllByRecursion IsInRange ls) (sym none) tt; whole = ap (λ (ls : List Letter). flat_map frame ls ++ old.bytes) (sym none); fault = h }
+    subst (λ (held : Held). Stepped old answer held) (sym e) record {
+      range = subst (λ (ls : List Letter). AllByRecursion IsInRange ls) (sym none) tt;
+      whole = ap (λ (ls : List Letter). flat_map frame ls ++ old.bytes) (sym none);
+      fault = h;
+    }
 
-refused : (old new : Held) (fault : FrameFault) → IsBad fault → decoded old.bytes ≡ Err fault → new ≡ record { bytes = old.bytes; fault = Some fault } → Stepped old (Err fault) new
+refused : (old new : Held) (fault : FrameFault) → IsBad fault → decoded old.bytes ≡ Err fault → new ≡ record { bytes = old.bytes; fault = Some fault } →
+    Stepped old (Err fault) new
 refused old new fault bad d e = subst (λ (held : Held). Stepped old (Err fault) held) (sym e) record { range = tt; whole = refl; fault = (bad, d) }
 
 abbrev answered : Option Letter → Result (Option Letter) FrameFault
 answered letter = Ok letter
 
-taken : (old new : Held) (x : Letter × ℕ) → AreBytes old.bytes → decoded old.bytes ≡ Ok x → new ≡ record { bytes = drop x.1 old.bytes; fault = None } → Stepped old (answered (Some x.0)) new
+taken : (old new : Held) (x : Letter × ℕ) → AreBytes old.bytes → decoded old.bytes ≡ Ok x → new ≡ record { bytes = drop x.1 old.bytes; fault = None } →
+    Stepped old (answered (Some x.0)) new
 taken old new x b d e =
     let s = decoded_sound old.bytes x b d in
     let one : flat_map frame (x.0 ∷ []) ≡ frame x.0 = flat_map-cons frame x.0 [] ∙ append-nil (frame x.0) in
-    let parts : old.bytes ≡ flat_map frame (x.0 ∷ []) ++ drop x.1 old.bytes = sym (take-append-drop x.1 old.bytes) ∙ ap (λ (t : List ℕ). t ++ drop x.1 old.bytes) (s.1.same ∙ sym one) in
+    let parts : old.bytes ≡ flat_map frame (x.0 ∷ []) ++ drop x.1 old.bytes = sym (take-append-drop x.1 old.bytes)
+    ∙ ap (λ (t : List ℕ). t ++ drop x.1 old.bytes) (s.1.same ∙ sym one) in
     subst (λ (held : Held). Stepped old (answered (Some x.0)) held) (sym e) record { range = (s.1.range, tt); whole = parts; fault = tt }
 
-step-by : (old new : Held) (answer : Result (Option Letter) FrameFault) (d : Result (Letter × ℕ) FrameFault) → AreBytes old.bytes → FaultStands old.bytes old.fault → decoded old.bytes ≡ d → answer_of d ≡ answer → new ≡ held_after old d →
+step-by : (old new : Held) (answer : Result (Option Letter) FrameFault) (d : Result (Letter × ℕ) FrameFault) → AreBytes old.bytes →
+    FaultStands old.bytes old.fault → decoded old.bytes ≡ d → answer_of d ≡ answer → new ≡ held_after old d →
     (answer ≡ Err Memory → ⊥) → Stepped old answer new
 step-by old new answer (Ok x) b h d a e m = subst (λ (r : Result (Option Letter) FrameFault). Stepped old r new) a (taken old new x b d e)
-step-by old new answer (Err Short) b h d a e m = subst (λ (r : Result (Option Letter) FrameFault). Stepped old r new) a (unchanged old new (answered None) refl h e)
-step-by old new answer (Err (BadLength at)) b h d a e m = subst (λ (r : Result (Option Letter) FrameFault). Stepped old r new) a (refused old new (BadLength at) tt d e)
-step-by old new answer (Err (BadTag at)) b h d a e m = subst (λ (r : Result (Option Letter) FrameFault). Stepped old r new) a (refused old new (BadTag at) tt d e)
-step-by old new answer (Err (BadField at)) b h d a e m = subst (λ (r : Result (Option Letter) FrameFault). Stepped old r new) a (refused old new (BadField at) tt d e)
+step-by old new answer (Err Short) b h d a e m =
+    subst (λ (r : Result (Option Letter) FrameFault). Stepped old r new) a (unchanged old new (answered None) refl h e)
+step-by old new answer (Err (BadLength at)) b h d a e m =
+    subst (λ (r : Result (Option Letter) FrameFault). Stepped old r new) a (refused old new (BadLength at) tt d e)
+step-by old new answer (Err (BadTag at)) b h d a e m =
+    subst (λ (r : Result (Option Letter) FrameFault). Stepped old r new) a (refused old new (BadTag at) tt d e)
+step-by old new answer (Err (BadField at)) b h d a e m =
+    subst (λ (r : Result (Option Letter) FrameFault). Stepped old r new) a (refused old new (BadField at) tt d e)
 step-by old new answer (Err Memory) b h d a e m = absurd (m (sym a))
 
-next-step : (old new : Held) (answer : Result (Option Letter) FrameFault) → AreBytes old.bytes → FaultStands old.bytes old.fault → IsNext old answer new → Stepped old answer new
+next-step : (old new : Held) (answer : Result (Option Letter) FrameFault) → AreBytes old.bytes → FaultStands old.bytes old.fault → IsNext old answer new →
+    Stepped old answer new
 next-step old new (Ok letter) b h n = step-by old new (Ok letter) (decoded old.bytes) b h refl n.0 n.1 (λ e. absurd cc)
 next-step old new (Err Short) b h n = step-by old new (Err Short) (decoded old.bytes) b h refl n.0 n.1 (λ e. absurd cc)
 next-step old new (Err (BadLength at)) b h n = step-by old new (Err (BadLength at)) (decoded old.bytes) b h refl n.0 n.1 (λ e. absurd cc)
@@ -159,9 +175,11 @@ all-append (x ∷ xs) ys h k = (h.0, all-append xs ys h.1 k)
 frames-append : (xs ys : List Letter) → flat_map frame (xs ++ ys) ≡ flat_map frame xs ++ flat_map frame ys
 frames-append [] ys = refl
 frames-append (x ∷ xs) ys =
-    flat_map-cons frame x (xs ++ ys) ∙ ap (λ (t : List ℕ). frame x ++ t) (frames-append xs ys) ∙ sym (append_assoc (frame x) (flat_map frame xs) (flat_map frame ys)) ∙ ap (λ (t : List ℕ). t ++ flat_map frame ys) (sym (flat_map-cons frame x xs))
+    flat_map-cons frame x (xs ++ ys) ∙ ap (λ (t : List ℕ). frame x ++ t) (frames-append xs ys)
+    ∙ sym (append_assoc (frame x) (flat_map frame xs) (flat_map frame ys)) ∙ ap (λ (t : List ℕ). t ++ flat_map frame ys) (sym (flat_map-cons frame x xs))
 
-reading : (events : List Event) (old new : Held) → AreBytes (old.bytes ++ fed events) → FaultStands old.bytes old.fault → IsReading old events new → AreTold (old.bytes ++ fed events) (told events) new
+reading : (events : List Event) (old new : Held) → AreBytes (old.bytes ++ fed events) → FaultStands old.bytes old.fault → IsReading old events new →
+    AreTold (old.bytes ++ fed events) (told events) new
 reading [] old new b h e =
     subst (λ (held : Held). AreTold (old.bytes ++ []) [] held) e record { range = tt; whole = append-nil old.bytes; fault = h }
 reading (Fed piece ∷ events) old new b h e =
@@ -170,13 +188,17 @@ reading (Fed piece ∷ events) old new b h e =
     (reading events (record { bytes = old.bytes ++ piece; fault = old.fault }) new (subst AreBytes (sym same) b) (fault-stays old.bytes piece old.fault h) e)
 reading (Told answer ∷ events) old new b h e =
     let s = next-step old e.0 answer (front-bytes old.bytes (fed events) b) h e.1 in
-    let parts : old.bytes ++ fed events ≡ flat_map frame (letter_of answer) ++ (e.0.bytes ++ fed events) = ap (λ (t : List ℕ). t ++ fed events) s.whole ∙ append_assoc (flat_map frame (letter_of answer)) e.0.bytes (fed events) in
+    let parts : old.bytes ++ fed events ≡ flat_map frame (letter_of answer) ++ (e.0.bytes ++ fed events) = ap (λ (t : List ℕ). t ++ fed events) s.whole
+    ∙ append_assoc (flat_map frame (letter_of answer)) e.0.bytes (fed events) in
     let r = reading events e.0 new (rest-bytes (flat_map frame (letter_of answer)) (e.0.bytes ++ fed events) (subst AreBytes parts b)) s.fault e.2 in
     record {
       range = all-append (letter_of answer) (told events) s.range r.range;
-      whole = parts ∙ ap (λ (t : List ℕ). flat_map frame (letter_of answer) ++ t) r.whole ∙ sym (append_assoc (flat_map frame (letter_of answer)) (flat_map frame (told events)) new.bytes) ∙ ap (λ (t : List ℕ). t ++ new.bytes) (sym (frames-append (letter_of answer) (told events)));
+      whole = parts ∙ ap (λ (t : List ℕ). flat_map frame (letter_of answer) ++ t) r.whole
+          ∙ sym (append_assoc (flat_map frame (letter_of answer)) (flat_map frame (told events)) new.bytes)
+          ∙ ap (λ (t : List ℕ). t ++ new.bytes) (sym (frames-append (letter_of answer) (told events)));
       fault = r.fault;
     }
 
-pub are-told : (events : List Event) (held : Held) → AreBytes (fed events) → IsReading (record { bytes = []; fault = None }) events held → AreTold (fed events) (told events) held
+pub are-told : (events : List Event) (held : Held) → AreBytes (fed events) → IsReading (record { bytes = []; fault = None }) events held →
+    AreTold (fed events) (told events) held
 are-told events held b e = reading events (record { bytes = []; fault = None }) held b tt e

@@ -1,11 +1,14 @@
 -- Reading the fields of each kind of letter.
 use Rattle.std.specs.Prelude.{ℕ, List}
 use Rattle.dds_letters.specs.declared.letter.Letter.{Letter}
-use Rattle.dds_letters.specs.declared.letter.Letter.TheVariants.{Get, Prepare, Commit, Abort, Push, MapAsk, Got, Vote, Applied, Aborted, MapTell, Help, Query, Status, Outcome, Lease, Granted, LeaseRefused, Release, CopyAsk, CopyPart, Install, Installed, Notice}
+use Rattle.dds_letters.specs.declared.letter.Letter.TheVariants.{Get, Prepare, Commit, Abort, Push, MapAsk, Got, Vote, Applied, Aborted}
+use Rattle.dds_letters.specs.declared.letter.Letter.TheVariants.{MapTell, Help, Query, Status, Outcome, Lease, Granted, LeaseRefused}
+use Rattle.dds_letters.specs.declared.letter.Letter.TheVariants.{Release, CopyAsk, CopyPart, Install, Installed, Notice}
 use Rattle.dds_frames.specs.declared.tag.Tag.{Tag}
 use Rattle.dds_frames.specs.declared.tag.Tag.TheVariants as tags
 use Rattle.dds_frames.specs.Reading.{Reading, number_at, nothing_at, ◌&◌, made}
-use Rattle.dds_frames.specs.Parts.{flag_at, txn_at, caller_at, call_at, name_at, stamp_at, group_at, leaf_at, maybe_leaf_at, after_at, update_at, refusal_at, answer_at, ballot_at, status_at, wanted_at, pairs_at}
+use Rattle.dds_frames.specs.Parts.{flag_at, txn_at, caller_at, call_at, name_at, stamp_at, group_at, leaf_at, maybe_leaf_at, after_at}
+use Rattle.dds_frames.specs.Parts.{update_at, refusal_at, answer_at, ballot_at, status_at, wanted_at, pairs_at}
 
 unfoldable pub get_at : List ℕ → Reading Letter
 get_at =

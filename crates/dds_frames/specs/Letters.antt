@@ -1,11 +1,16 @@
 -- The bytes of a letter's fields, its tag, and its ranges.
 use Rattle.std.specs.Prelude.{ℕ, List, []}
 use Rattle.dds_letters.specs.declared.letter.Letter.{Letter}
-use Rattle.dds_letters.specs.declared.letter.Letter.TheVariants.{Get, Prepare, Commit, Abort, Push, MapAsk, Got, Vote, Applied, Aborted, MapTell, Help, Query, Status, Outcome, Lease, Granted, LeaseRefused, Release, CopyAsk, CopyPart, Install, Installed, Notice}
+use Rattle.dds_letters.specs.declared.letter.Letter.TheVariants.{Get, Prepare, Commit, Abort, Push, MapAsk, Got, Vote, Applied, Aborted}
+use Rattle.dds_letters.specs.declared.letter.Letter.TheVariants.{MapTell, Help, Query, Status, Outcome, Lease, Granted, LeaseRefused}
+use Rattle.dds_letters.specs.declared.letter.Letter.TheVariants.{Release, CopyAsk, CopyPart, Install, Installed, Notice}
 use Rattle.dds_frames.specs.declared.tag.Tag.{Tag}
 use Rattle.dds_frames.specs.declared.tag.Tag.TheVariants as tags
-use Rattle.dds_frames.specs.Ranges.{IsTxn, IsCaller, IsCall, IsWord, IsName, IsStamp, IsGroup, IsLeaf, IfThere, IsUpdate, IsRefusal, IsAnswer, IsBallot, IsWanted, AreCopied}
-use Rattle.dds_frames.specs.Spelling.{◌⧺◌, number_bytes, flag_bytes, txn_bytes, name_bytes, stamp_bytes, group_bytes, leaf_bytes, maybe_leaf_bytes, after_bytes, update_bytes, refusal_bytes, answer_bytes, ballot_bytes, status_bytes, wanted_bytes, pairs_bytes}
+use Rattle.dds_frames.specs.Ranges.{IsTxn, IsCaller, IsCall, IsWord, IsName, IsStamp, IsGroup, IsLeaf, IfThere, IsUpdate, IsRefusal}
+use Rattle.dds_frames.specs.Ranges.{IsAnswer, IsBallot, IsWanted, AreCopied}
+use Rattle.dds_frames.specs.Spelling.{◌⧺◌, number_bytes, flag_bytes, txn_bytes, name_bytes, stamp_bytes, group_bytes, leaf_bytes}
+use Rattle.dds_frames.specs.Spelling.{maybe_leaf_bytes, after_bytes, update_bytes, refusal_bytes, answer_bytes, ballot_bytes, status_bytes}
+use Rattle.dds_frames.specs.Spelling.{wanted_bytes, pairs_bytes}
 
 -- which kind of letter it is
 abbrev pub tag_of : Letter → Tag
@@ -39,7 +44,8 @@ abbrev pub field_bytes : Letter → List ℕ
 field_bytes (Get txn caller call key name stamp) =
     txn_bytes txn ⧺ number_bytes 1 caller ⧺ number_bytes 4 call.0 ⧺ number_bytes 8 key ⧺ name_bytes name ⧺ stamp_bytes stamp
 field_bytes (Prepare txn caller call below name stamp list op) =
-    txn_bytes txn ⧺ number_bytes 1 caller ⧺ number_bytes 4 call.0 ⧺ number_bytes 8 below ⧺ name_bytes name ⧺ stamp_bytes stamp ⧺ group_bytes list ⧺ update_bytes op
+    txn_bytes txn ⧺ number_bytes 1 caller ⧺ number_bytes 4 call.0 ⧺ number_bytes 8 below ⧺ name_bytes name ⧺ stamp_bytes stamp ⧺ group_bytes list ⧺
+    update_bytes op
 field_bytes (Commit txn) = txn_bytes txn
 field_bytes (Abort txn) = txn_bytes txn
 field_bytes (Push leaf) = leaf_bytes leaf

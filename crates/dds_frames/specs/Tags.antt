@@ -1,7 +1,9 @@
 -- The number of each kind of letter.
 use Rattle.std.specs.Prelude.{ℕ, ◌==◌, List, [], ◌∷◌, Option, Some, None, if◌then◌else◌}
 use Rattle.dds_frames.specs.declared.tag.Tag.{Tag}
-use Rattle.dds_frames.specs.declared.tag.Tag.TheVariants.{Get, Prepare, Commit, Abort, Push, MapAsk, Got, Vote, Applied, Aborted, MapTell, Help, Query, Status, Outcome, Lease, Granted, LeaseRefused, Release, CopyAsk, CopyPart, Install, Installed, Notice}
+use Rattle.dds_frames.specs.declared.tag.Tag.TheVariants.{Get, Prepare, Commit, Abort, Push, MapAsk, Got, Vote, Applied, Aborted, MapTell}
+use Rattle.dds_frames.specs.declared.tag.Tag.TheVariants.{Help, Query, Status, Outcome, Lease, Granted, LeaseRefused, Release, CopyAsk}
+use Rattle.dds_frames.specs.declared.tag.Tag.TheVariants.{CopyPart, Install, Installed, Notice}
 
 abbrev pub tag_number : Tag → ℕ
 tag_number Get = 1
@@ -36,7 +38,8 @@ tag_among (t ∷ ts) n = if n == tag_number t then Some t else tag_among ts n
 
 abbrev pub all_tags : List Tag
 all_tags =
-    Get ∷ Prepare ∷ Commit ∷ Abort ∷ Push ∷ MapAsk ∷ Got ∷ Vote ∷ Applied ∷ Aborted ∷ MapTell ∷ Help ∷ Query ∷ Status ∷ Outcome ∷ Lease ∷ Granted ∷ LeaseRefused ∷ Release ∷ CopyAsk ∷ CopyPart ∷ Install ∷ Installed ∷ Notice ∷ []
+    Get ∷ Prepare ∷ Commit ∷ Abort ∷ Push ∷ MapAsk ∷ Got ∷ Vote ∷ Applied ∷ Aborted ∷ MapTell ∷ Help ∷ Query ∷ Status ∷ Outcome ∷ Lease ∷ Granted
+    ∷ LeaseRefused ∷ Release ∷ CopyAsk ∷ CopyPart ∷ Install ∷ Installed ∷ Notice ∷ []
 
 -- the kind that has this number
 unfoldable pub tag_with : ℕ → Option Tag

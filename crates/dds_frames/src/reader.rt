@@ -88,5 +88,6 @@ impl FrameReader {
 /// What any reader does: the letters answered are those whose frames, one behind another, are the beginning of the
 /// bytes given, in whatever pieces they came; and the rest is what it holds.
 pub fn readings_are_spelled()
-    ensures { (events : List Event) (held : Held) → AreBytes (fed events) → IsReading (record { bytes = []; fault = None }) events held → AreTold (fed events) (told events) held }
+    ensures { (events : List Event) (held : Held) → AreBytes (fed events) → IsReading (record { bytes = []; fault = None }) events held →
+        AreTold (fed events) (told events) held }
 {}

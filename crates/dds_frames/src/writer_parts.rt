@@ -4,7 +4,8 @@ ghost use Rattle.std.specs.Prelude.{◌≡◌, ◌≤◌, ◌<◌, ◌^◌, ◌+
 ghost use Rattle.std.specs.List.{flat_map};
 ghost use Rattle.dds_base.specs.Place.{rise_after};
 ghost use Rattle.dds_frames.specs.Ranges.{IsGroup, IsLeaf, IfThere, IsRefusal, IsDenial, IsAnswer, IsBallot, IsWanted, IsPair, ArePairs, AreCopied};
-ghost use Rattle.dds_frames.specs.Spelling.{number_bytes, group_bytes, leaf_bytes, maybe_leaf_bytes, refusal_bytes, denial_bytes, answer_bytes, ballot_bytes, wanted_bytes, pair_bytes, pairs_bytes};
+ghost use Rattle.dds_frames.specs.Spelling.{number_bytes, group_bytes, leaf_bytes, maybe_leaf_bytes, refusal_bytes, denial_bytes};
+ghost use Rattle.dds_frames.specs.Spelling.{answer_bytes, ballot_bytes, wanted_bytes, pair_bytes, pairs_bytes};
 
 use crate::writer::FrameWriter;
 use dds_base::brick_list::BrickList;

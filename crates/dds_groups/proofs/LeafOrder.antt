@@ -21,7 +21,9 @@ lt-transitive x y z h k = grind (arith, nat_tests, h, k)
 
 pub newer-transitive : (a b c : Leaf) → newer a b ≡ true → newer b c ≡ true → newer a c ≡ true
 newer-transitive a b c h k =
-    above-transitive a.epoch b.epoch c.epoch _ _ _ (above-transitive a.name.depth b.name.depth c.name.depth _ _ _ (above-transitive a.stamp.maker b.stamp.maker c.stamp.maker _ _ _ (lt-transitive a.stamp.count b.stamp.count c.stamp.count))) h k
+    above-transitive a.epoch b.epoch c.epoch _ _ _
+    (above-transitive a.name.depth b.name.depth c.name.depth _ _ _
+    (above-transitive a.stamp.maker b.stamp.maker c.stamp.maker _ _ _ (lt-transitive a.stamp.count b.stamp.count c.stamp.count))) h k
 
 pub newer-total : (a b : Leaf) → same_stamp a.stamp b.stamp ≡ false → (newer a b ≡ true) ⊎ (newer b a ≡ true)
 newer-total a b h = grind (arith, nat_tests, h)

@@ -1,5 +1,6 @@
 -- Laws of the live members of a list, and of some members of it.
-use Rattle.std.proofs.Common.{◌≡◌, ℕ, ◌+◌, ◌==◌, ◌&&◌, ◌||◌, ◌<◌, ◌≤◌, Bool, true, false, not, cond, eqb, List, [], ◌∷◌, ◌++◌, length, take, get_or, refl, ap, ◌∙◌, sym, IsTrue, arith, zero, suc}
+use Rattle.std.proofs.Common.{◌≡◌, ℕ, ◌+◌, ◌==◌, ◌&&◌, ◌||◌, ◌<◌, ◌≤◌, Bool, true, false, not, cond, eqb, List, [], ◌∷◌, ◌++◌, length, take}
+use Rattle.std.proofs.Common.{get_or, refl, ap, ◌∙◌, sym, IsTrue, arith, zero, suc}
 use Rattle.std.proofs.lemmas.Bool.Decides.{nat_tests}
 use Rattle.std.proofs.lemmas.List.{take_more}
 use Rattle.dds_base.specs.BrickList.{has, are_bricks}
@@ -14,13 +15,15 @@ and-false false = refl
 
 other-number : (xs : List ℕ) (x n : ℕ) → has xs x ≡ false → has xs n ≡ true → eqb x n ≡ false
 other-number xs x n new there =
-    elim (eqb x n) as (λ t. eqb x n ≡ t → t ≡ false) [ true ↦ λ t. let same : x ≡ n = same-number x n t in let off : has xs n ≡ false = rw same at new in cc | false ↦ λ t. refl ] refl
+    elim (eqb x n) as (λ t. eqb x n ≡ t → t ≡ false)
+    [ true ↦ λ t. let same : x ≡ n = same-number x n t in let off : has xs n ≡ false = rw same at new in cc | false ↦ λ t. refl ] refl
 
 -- the live members of two lists together
 pub live-append : (xs ys : List ℕ) (known : ℕ → Bool) → live (xs ++ ys) known ≡ live xs known ++ live ys known
 live-append [] ys known = refl
 live-append (x ∷ xs) ys known =
-    elim (known x) as (λ b. cond b (live (xs ++ ys) known) (x ∷ live (xs ++ ys) known) ≡ cond b (live xs known) (x ∷ live xs known) ++ live ys known) [ true ↦ live-append xs ys known | false ↦ ap (λ zs. x ∷ zs) (live-append xs ys known) ]
+    elim (known x) as (λ b. cond b (live (xs ++ ys) known) (x ∷ live (xs ++ ys) known) ≡ cond b (live xs known) (x ∷ live xs known) ++ live ys known)
+    [ true ↦ live-append xs ys known | false ↦ ap (λ zs. x ∷ zs) (live-append xs ys known) ]
 
 live-last : (zs : List ℕ) (x : ℕ) (b : Bool) → zs ++ cond b [] (x ∷ []) ≡ cond b zs (zs ++ x ∷ [])
 live-last [] x true = refl
@@ -45,7 +48,14 @@ live-length (x ∷ xs) known =
 pub has-live : (xs : List ℕ) (known : ℕ → Bool) (n : ℕ) → has (live xs known) n ≡ (has xs n && not (known n))
 has-live [] known n = refl
 has-live (x ∷ xs) known n =
-    elim (known x) as (λ b. known x ≡ b → has (cond b (live xs known) (x ∷ live xs known)) n ≡ ((x == n || has xs n) && not (known n))) [ true ↦ λ e. elim (eqb x n) as (λ t. eqb x n ≡ t → has (live xs known) n ≡ ((t || has xs n) && not (known n))) [ true ↦ λ t. let k : known n ≡ true = ap known (sym (same-number x n t)) ∙ e in rw (has-live xs known n, k) (and-false (has xs n)) | false ↦ λ t. has-live xs known n ] refl | false ↦ λ e. elim (eqb x n) as (λ t. eqb x n ≡ t → (t || has (live xs known) n) ≡ ((t || has xs n) && not (known n))) [ true ↦ λ t. let k : known n ≡ false = ap known (sym (same-number x n t)) ∙ e in rw k refl | false ↦ λ t. has-live xs known n ] refl ] refl
+    elim (known x) as (λ b. known x ≡ b → has (cond b (live xs known) (x ∷ live xs known)) n ≡ ((x == n || has xs n) && not (known n))) [
+      | true ↦ λ e. elim (eqb x n) as (λ t. eqb x n ≡ t → has (live xs known) n ≡ ((t || has xs n) && not (known n))) [
+        | true ↦ λ t. let k : known n ≡ true = ap known (sym (same-number x n t)) ∙ e in rw (has-live xs known n, k) (and-false (has xs n))
+        | false ↦ λ t. has-live xs known n
+      ] refl
+      | false ↦ λ e. elim (eqb x n) as (λ t. eqb x n ≡ t → (t || has (live xs known) n) ≡ ((t || has xs n) && not (known n)))
+          [ true ↦ λ t. let k : known n ≡ false = ap known (sym (same-number x n t)) ∙ e in rw k refl | false ↦ λ t. has-live xs known n ] refl
+    ] refl
 
 some-skip : (x : ℕ) (xs ys : List ℕ) → has ys x ≡ false → is_some_of xs ys ≡ true → is_some_of (x ∷ xs) ys ≡ true
 some-skip x xs [] new h = refl
@@ -58,7 +68,8 @@ some-live (x ∷ xs) known h =
     let rest : is_some_of xs (live xs known) ≡ true = some-live xs known (grind (arith, nat_tests, h)) in
     let new : has xs x ≡ false = grind (arith, nat_tests, h) in
     let out : has (live xs known) x ≡ false = rw (has-live xs known x, new) refl in
-    elim (known x) as (λ b. is_some_of (x ∷ xs) (cond b (live xs known) (x ∷ live xs known)) ≡ true) [ true ↦ some-skip x xs (live xs known) out rest | false ↦ let same : (x == x) ≡ true = grind (arith, nat_tests) in rw same rest ]
+    elim (known x) as (λ b. is_some_of (x ∷ xs) (cond b (live xs known) (x ∷ live xs known)) ≡ true)
+    [ true ↦ some-skip x xs (live xs known) out rest | false ↦ let same : (x == x) ≡ true = grind (arith, nat_tests) in rw same rest ]
 
 -- what isn't in a list isn't among some members of it
 pub has-some : (xs ys : List ℕ) (n : ℕ) → IsTrue (is_some_of xs ys) → has xs n ≡ false → has ys n ≡ false
@@ -66,7 +77,10 @@ has-some [] [] n h none = refl
 has-some [] (y ∷ ys) n h none = cc
 has-some (x ∷ xs) [] n h none = refl
 has-some (x ∷ xs) (y ∷ ys) n h none =
-    elim (eqb x y) as (λ t. eqb x y ≡ t → IsTrue (cond t (is_some_of xs ys) (is_some_of xs (y ∷ ys))) → has (y ∷ ys) n ≡ false) [ true ↦ λ t k. let rest : has ys n ≡ false = has-some xs ys n k (grind (arith, nat_tests, none)) in grind (arith, nat_tests, none, rest, t) | false ↦ λ t k. has-some xs (y ∷ ys) n k (grind (arith, nat_tests, none)) ] refl h
+    elim (eqb x y) as (λ t. eqb x y ≡ t → IsTrue (cond t (is_some_of xs ys) (is_some_of xs (y ∷ ys))) → has (y ∷ ys) n ≡ false) [
+      | true ↦ λ t k. let rest : has ys n ≡ false = has-some xs ys n k (grind (arith, nat_tests, none)) in grind (arith, nat_tests, none, rest, t)
+      | false ↦ λ t k. has-some xs (y ∷ ys) n k (grind (arith, nat_tests, none))
+    ] refl h
 
 -- each member stands in its list
 pub has-at : (xs : List ℕ) (i : ℕ) → i < length xs → has xs (get_or xs i 0) ≡ true

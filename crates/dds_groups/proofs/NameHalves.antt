@@ -8,7 +8,10 @@ use Rattle.dds_groups.specs.Names.{low_half, high_half, is_half, other_half}
 
 digit : (t p r whole : ℕ) → t < 2 → whole ≡ t * p + r → (whole ≡ r) ⊎ (whole ≡ r + p)
 digit t p r whole h e =
-    elim (eqb t 0) as (λ b. eqb t 0 ≡ b → (whole ≡ r) ⊎ (whole ≡ r + p)) [ true ↦ λ k. let z : t ≡ 0 = grind (arith, nat_tests, k) in inl (e ∙ rw z (omega arith)) | false ↦ λ k. let one : t ≡ 1 = grind (arith, nat_tests, k) in inr (e ∙ rw one (omega arith)) ] refl
+    elim (eqb t 0) as (λ b. eqb t 0 ≡ b → (whole ≡ r) ⊎ (whole ≡ r + p)) [
+      | true ↦ λ k. let z : t ≡ 0 = grind (arith, nat_tests, k) in inl (e ∙ rw z (omega arith))
+      | false ↦ λ k. let one : t ≡ 1 = grind (arith, nat_tests, k) in inr (e ∙ rw one (omega arith))
+    ] refl
 
 -- one bit more of a key
 next-bit : (key d : ℕ) → (key % 2 ^ (d + 1) ≡ key % 2 ^ d) ⊎ (key % 2 ^ (d + 1) ≡ key % 2 ^ d + 2 ^ d)
@@ -28,7 +31,8 @@ halves-apart n key =
     let some : 0 < 2 ^ n.depth = pow_pos n.depth in
     grind (arith, nat_tests, some)
 
-other-bits : (bits d e new : ℕ) → e ≡ d → cond (ltb bits (2 ^ d)) (bits + 2 ^ d) (bits - 2 ^ d) ≡ new → cond (ltb bits (2 ^ e)) (bits + 2 ^ e) (bits - 2 ^ e) ≡ new
+other-bits : (bits d e new : ℕ) → e ≡ d → cond (ltb bits (2 ^ d)) (bits + 2 ^ d) (bits - 2 ^ d) ≡ new →
+    cond (ltb bits (2 ^ e)) (bits + 2 ^ e) (bits - 2 ^ e) ≡ new
 other-bits bits d e new same h = rw same h
 
 named : (a b d : ℕ) → a ≡ b → let x : Name = record { bits = a; depth = d } in let y : Name = record { bits = b; depth = d } in x ≡ y

@@ -1,5 +1,6 @@
 -- What a leaf has from its predecessor, and that the leaves made for a join and a split are its successors.
-use Rattle.std.proofs.Common.{◌≡◌, ℕ, ◌+◌, ◌-◌, ◌^◌, ◌<◌, ◌==◌, ◌&&◌, Bool, true, false, cond, ltb, length, take, get_or, List, [], ◌∷◌, ◌++◌, Some, None, IsTrue, refl, ap, ◌∙◌, arith}
+use Rattle.std.proofs.Common.{◌≡◌, ℕ, ◌+◌, ◌-◌, ◌^◌, ◌<◌, ◌==◌, ◌&&◌, Bool, true, false, cond, ltb, length, take, get_or, List, [], ◌∷◌}
+use Rattle.std.proofs.Common.{◌++◌, Some, None, IsTrue, refl, ap, ◌∙◌, arith}
 use Rattle.std.proofs.lemmas.Bool.Decides.{nat_tests}
 use Rattle.std.proofs.lemmas.List.{length_push, get_or_push}
 use Rattle.std.proofs.Math.Seq.{take-append_seam}
@@ -35,7 +36,8 @@ same-names a b h =
 
 follows-of : (old new : Leaf) (change : Change) → successor old new ≡ Some change → follows old new ≡ true
 follows-of old new change h =
-    elim (follows old new) as (λ b. cond b (cond (is_join old new) (Some Join) (cond (is_split old new) (Some Split) None)) None ≡ Some change → b ≡ true) [ true ↦ λ k. refl | false ↦ λ k. cc ] h
+    elim (follows old new) as (λ b. cond b (cond (is_join old new) (Some Join) (cond (is_split old new) (Some Split) None)) None ≡ Some change → b ≡ true)
+    [ true ↦ λ k. refl | false ↦ λ k. cc ] h
 
 -- a successor's predecessor is the leaf that it comes from
 pub successor-prev : (old new : Leaf) (change : Change) → successor old new ≡ Some change → new.prev ≡ old.stamp
@@ -92,7 +94,8 @@ joined-list old members joiner some =
     rw (len, at, front, some, least, last, self-number joiner) refl
 
 -- the joiner's leaf is a Join successor
-pub joined-successor : (old : Leaf) (members : List ℕ) (joiner count : ℕ) → IsTrue (is_some_of old.list members) → has old.list joiner ≡ false → successor old (joined old members joiner count) ≡ Some Join
+pub joined-successor : (old : Leaf) (members : List ℕ) (joiner count : ℕ) → IsTrue (is_some_of old.list members) → has old.list joiner ≡ false →
+    successor old (joined old members joiner count) ≡ Some Join
 joined-successor old members joiner count some new =
     rw (self-stamp old.stamp, self-number (old.epoch + 1), self-name old.name, new, joined-list old.list members joiner some) refl
 
@@ -101,23 +104,27 @@ other-depth : (a b : Name) → b.depth ≡ a.depth + 1 → same_name a b ≡ fal
 other-depth a b e = grind (arith, nat_tests, e)
 
 -- both children are Split successors
-pub low-successor : (old : Leaf) (members : List ℕ) (maker count : ℕ) → old.name.bits < 2 ^ old.name.depth → IsTrue (is_some_of old.list members) → has members maker ≡ true → successor old (low_child old members maker count) ≡ Some Split
+pub low-successor : (old : Leaf) (members : List ℕ) (maker count : ℕ) → old.name.bits < 2 ^ old.name.depth → IsTrue (is_some_of old.list members) →
+    has members maker ≡ true → successor old (low_child old members maker count) ≡ Some Split
 low-successor old members maker count range some there =
     let deeper : same_name old.name (low_half old.name) ≡ false = other-depth old.name (low_half old.name) refl in
     let half : is_half old.name (low_half old.name) ≡ true = low-is-half old.name range in
     rw (self-stamp old.stamp, self-number (old.epoch + 1), deeper, half, some, there) refl
 
-pub high-successor : (old : Leaf) (members : List ℕ) (maker count : ℕ) → old.name.bits < 2 ^ old.name.depth → IsTrue (is_some_of old.list members) → has members maker ≡ true → successor old (high_child old members maker count) ≡ Some Split
+pub high-successor : (old : Leaf) (members : List ℕ) (maker count : ℕ) → old.name.bits < 2 ^ old.name.depth → IsTrue (is_some_of old.list members) →
+    has members maker ≡ true → successor old (high_child old members maker count) ≡ Some Split
 high-successor old members maker count range some there =
     let deeper : same_name old.name (high_half old.name) ≡ false = other-depth old.name (high_half old.name) refl in
     let half : is_half old.name (high_half old.name) ≡ true = high-is-half old.name range in
     rw (self-stamp old.stamp, self-number (old.epoch + 1), deeper, half, some, there) refl
 
 -- the children are each other's sibling
-pub sibling-low : (old : Leaf) (members : List ℕ) (maker count : ℕ) → old.name.bits < 2 ^ old.name.depth → sibling (low_child old members maker count) ≡ high_child old members maker count
+pub sibling-low : (old : Leaf) (members : List ℕ) (maker count : ℕ) → old.name.bits < 2 ^ old.name.depth →
+    sibling (low_child old members maker count) ≡ high_child old members maker count
 sibling-low old members maker count range =
     ap (λ (n : Name). let x : Leaf = record (low_child old members maker count) { name = n } in x) (other-low old.name range)
 
-pub sibling-high : (old : Leaf) (members : List ℕ) (maker count : ℕ) → old.name.bits < 2 ^ old.name.depth → sibling (high_child old members maker count) ≡ low_child old members maker count
+pub sibling-high : (old : Leaf) (members : List ℕ) (maker count : ℕ) → old.name.bits < 2 ^ old.name.depth →
+    sibling (high_child old members maker count) ≡ low_child old members maker count
 sibling-high old members maker count range =
     ap (λ (n : Name). let x : Leaf = record (low_child old members maker count) { name = n } in x) (other-high old.name range)

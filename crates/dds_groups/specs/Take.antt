@@ -21,4 +21,5 @@ is_better_rival known own leaf =
 -- overlaps the name of `own`, and that none of its keys is locked.
 abbrev pub may_take : ℕ → Leaf → Leaf → (ℕ → Bool) → Bool → Bool
 may_take me own leaf known free =
-    free && has leaf.list me && maker_known known leaf.stamp && (same_name own.name leaf.name || is_half own.name leaf.name) && (is_some (successor own leaf) || is_better_rival known own leaf)
+    free && has leaf.list me && maker_known known leaf.stamp && (same_name own.name leaf.name || is_half own.name leaf.name)
+    && (is_some (successor own leaf) || is_better_rival known own leaf)

@@ -20,9 +20,13 @@ get-unbound m k q = get-remove nat_cmp_total m k q ∙ ap (λ b. cond b None (ge
 same-key : (k q : ℕ) → eqb k q ≡ true → k ≡ q
 same-key k q e = grind (arith, nat_tests, e)
 
-get-swapped : (m : Map) (k : ℕ) (x v : List ℕ) (q : ℕ) (b : Bool) → is_bound_to (get m k) x ≡ b → get (cond b (insert m k v) m) q ≡ cond (k == q) (cond (is_bound_to (get m q) x) (Some v) (get m q)) (get m q)
-get-swapped m k x v q true e = get-bound m k v q ∙ elim (eqb k q) as (λ t. eqb k q ≡ t → cond t (Some v) (get m q) ≡ cond t (cond (is_bound_to (get m q) x) (Some v) (get m q)) (get m q)) [ true ↦ λ t. let s : k ≡ q = same-key k q t in let f : is_bound_to (get m q) x ≡ true = rw s at e in rw f refl | false ↦ λ t. refl ] refl
-get-swapped m k x v q false e = elim (eqb k q) as (λ t. eqb k q ≡ t → get m q ≡ cond t (cond (is_bound_to (get m q) x) (Some v) (get m q)) (get m q)) [ true ↦ λ t. let s : k ≡ q = same-key k q t in let f : is_bound_to (get m q) x ≡ false = rw s at e in rw f refl | false ↦ λ t. refl ] refl
+get-swapped : (m : Map) (k : ℕ) (x v : List ℕ) (q : ℕ) (b : Bool) → is_bound_to (get m k) x ≡ b →
+    get (cond b (insert m k v) m) q ≡ cond (k == q) (cond (is_bound_to (get m q) x) (Some v) (get m q)) (get m q)
+get-swapped m k x v q true e = get-bound m k v q
+    ∙ elim (eqb k q) as (λ t. eqb k q ≡ t → cond t (Some v) (get m q) ≡ cond t (cond (is_bound_to (get m q) x) (Some v) (get m q)) (get m q))
+    [ true ↦ λ t. let s : k ≡ q = same-key k q t in let f : is_bound_to (get m q) x ≡ true = rw s at e in rw f refl | false ↦ λ t. refl ] refl
+get-swapped m k x v q false e = elim (eqb k q) as (λ t. eqb k q ≡ t → get m q ≡ cond t (cond (is_bound_to (get m q) x) (Some v) (get m q)) (get m q))
+    [ true ↦ λ t. let s : k ≡ q = same-key k q t in let f : is_bound_to (get m q) x ≡ false = rw s at e in rw f refl | false ↦ λ t. refl ] refl
 
 -- what an operation leaves each key bound to
 pub get-after : (m : Map) (op : Op) (q : ℕ) → get (after m op) q ≡ bound_by (get m q) op q

@@ -21,7 +21,8 @@ legal_from-at m (x ∷ es) e fs h = legal_from-at (after m x.op) es e fs h.1
 pub replay-more : (es : List Entry) (i : ℕ) (e : Entry) → i < length es → e ≡ get_or es i e → replay (take (i + 1) es) ≡ after (replay (take i es)) e.op
 replay-more es i e h is = rw (take_more es i e h, ← is) (replay_from-append empty (take i es) (e ∷ []))
 
-pub legal-more : (es : List Entry) (i : ℕ) (e : Entry) → i < length es → e ≡ get_or es i e → IsLegal (take i es) → e.reply ≡ reply_to (replay (take i es)) e.op → IsLegal (take (i + 1) es)
+pub legal-more : (es : List Entry) (i : ℕ) (e : Entry) → i < length es → e ≡ get_or es i e → IsLegal (take i es) →
+    e.reply ≡ reply_to (replay (take i es)) e.op → IsLegal (take (i + 1) es)
 legal-more es i e h is legal reply = rw (take_more es i e h, ← is) (legal_from-push empty (take i es) e legal reply)
 
 pub legal-reply : (es : List Entry) (i : ℕ) (e : Entry) → i < length es → e ≡ get_or es i e → IsLegal es → e.reply ≡ reply_to (replay (take i es)) e.op

@@ -16,7 +16,8 @@ use Rattle.dds_cluster.specs.Trace.{run_of}
 use Rattle.dds_cluster.specs.declared.step.Step.{Step}
 use Rattle.dds_cluster.specs.declared.step.Step.TheVariants as step
 use Rattle.dds_cluster.specs.declared.trace.Asked.{Asked}
-use Rattle.dds_law_commit.proofs.Flight.{Settled, askeds, mades, tolds, table, Stage, asked, found, voted, decided, applied, denied, undone, aborted, idle, moving, trace_in, the_trace, the_caller, the_point, library_in, IsRight, IsGood}
+use Rattle.dds_law_commit.proofs.Flight.{Settled, askeds, mades, tolds, table, Stage, asked, found, voted, decided, applied, denied, undone}
+use Rattle.dds_law_commit.proofs.Flight.{aborted, idle, moving, trace_in, the_trace, the_caller, the_point, library_in, IsRight, IsGood}
 use Rattle.dds_law_commit.proofs.Good.{mades-push, length-push, table-push, table-kept, answered, refused, settle-result, settle-refusal}
 use Rattle.dds_law_commit.proofs.Rows.{committing, aborting, row-got, row-applied, row-aborted}
 use Rattle.dds_law_commit.proofs.Scene.{the_brick, the_library, the_txn, at_rest}
@@ -25,12 +26,17 @@ use Rattle.dds_law_commit.proofs.Moves.{good, same-trace, update-reply, good-ask
 
 -- The library's last step answers the call, and no call is open.
 
-same-rest : (m l : Map) (os : OutcomeMap) (i j k : ℕ) → m ≡ l → i ≡ j → at_rest (the_brick m [] os) (the_library i []) (k + 1 + 0) ≡ at_rest (the_brick l [] os) (the_library j []) (k + 1)
+same-rest : (m l : Map) (os : OutcomeMap) (i j k : ℕ) → m ≡ l → i ≡ j →
+    at_rest (the_brick m [] os) (the_library i []) (k + 1 + 0) ≡ at_rest (the_brick l [] os) (the_library j []) (k + 1)
 same-rest m l os i j k e f = let z : k + 1 + 0 ≡ k + 1 = omega arith in λ t. at_rest (the_brick (e t) [] os) (the_library (f t) []) (z t)
 
-settled : (xs : List Settled) (x : Settled) (m : Map) (os : OutcomeMap) (n k least : ℕ) → m ≡ table (xs ++ x ∷ []) → the_trace (at_rest (the_brick m [] os) (the_library (length xs + 1) []) (k + 1 + 0)) (n + 1) (the_caller least None) ((askeds xs ++ x.asked ∷ []) ++ []) ((mades xs ++ x.made) ++ []) (tolds xs ++ x.told ∷ []) ≡ trace_in (xs ++ x ∷ []) (n + 1) (k + 1) least os idle
+settled : (xs : List Settled) (x : Settled) (m : Map) (os : OutcomeMap) (n k least : ℕ) → m ≡ table (xs ++ x ∷ []) →
+    the_trace (at_rest (the_brick m [] os) (the_library (length xs + 1) []) (k + 1 + 0)) (n + 1) (the_caller least None) ((askeds xs ++ x.asked ∷ []) ++ [])
+    ((mades xs ++ x.made) ++ []) (tolds xs ++ x.told ∷ []) ≡ trace_in (xs ++ x ∷ []) (n + 1) (k + 1) least os idle
 settled xs x m os n k least is =
-    same-trace _ _ (n + 1) _ _ _ _ _ _ _ (same-rest m (table (xs ++ x ∷ [])) os (length xs + 1) (length (xs ++ x ∷ [])) k is (sym (length-push xs x))) (ap (λ qs. qs ++ []) (sym (map-append (λ (y : Settled). y.asked) xs (x ∷ [])))) (ap (λ ms. ms ++ []) (sym (mades-push xs x))) (sym (map-append (λ (y : Settled). y.told) xs (x ∷ [])))
+    same-trace _ _ (n + 1) _ _ _ _ _ _ _ (same-rest m (table (xs ++ x ∷ [])) os (length xs + 1) (length (xs ++ x ∷ [])) k is (sym (length-push xs x)))
+    (ap (λ qs. qs ++ []) (sym (map-append (λ (y : Settled). y.asked) xs (x ∷ [])))) (ap (λ ms. ms ++ []) (sym (mades-push xs x)))
+    (sym (map-append (λ (y : Settled). y.told) xs (x ∷ [])))
 
 get-reply : (m : Map) (o : Op) → is_get o ≡ true → found_reply (get m (the_key o)) ≡ reply_to m o
 get-reply m (op.Get key) h = refl
@@ -54,32 +60,46 @@ result-update (op.Put key value) flag = refl
 result-update (op.Remove key) flag = refl
 result-update (op.Swap key expected value) flag = refl
 
-good-found : (journal : List Step) (xs : List Settled) (n k least : ℕ) (os : OutcomeMap) (a : Asked) (p : ℕ) → run_of first_opening journal ≡ trace_in xs n k least os (moving true (found p) a) → IsRight journal xs n least (moving true (found p) a) → IsGood (journal ++ (step.Handle 64 0) ∷ [])
+good-found : (journal : List Step) (xs : List Settled) (n k least : ℕ) (os : OutcomeMap) (a : Asked) (p : ℕ) →
+    run_of first_opening journal ≡ trace_in xs n k least os (moving true (found p) a) → IsRight journal xs n least (moving true (found p) a) →
+    IsGood (journal ++ (step.Handle 64 0) ∷ [])
 good-found journal xs n k least os a p run right =
     let bound = get (table xs) (the_key a.op) in
     let r = found_reply bound in
     let x = answered xs n p a r in
     let update = right.open_call.1.1 in
     good journal _ _ run (xs ++ x ∷ []) (n + 1) (k + 1) least os idle
-    (handle-answer (the_brick (table xs) [] os) (library_in xs a (Getting first_leaf 0)) (the_library (length xs + 1) []) k n (length xs) (letter.Got (the_txn (length xs)) (answer_of bound)) a r least (Some a.call) (askeds xs ++ a ∷ []) (mades xs ++ the_point xs a p ∷ []) (tolds xs) right.open_call.0.caller (row-got (length xs) (length xs + 1) (the_key a.op) a bound)
+    (handle-answer (the_brick (table xs) [] os) (library_in xs a (Getting first_leaf 0)) (the_library (length xs + 1) []) k n (length xs)
+    (letter.Got (the_txn (length xs)) (answer_of bound)) a r least (Some a.call) (askeds xs ++ a ∷ []) (mades xs ++ the_point xs a p ∷ []) (tolds xs)
+    right.open_call.0.caller (row-got (length xs) (length xs + 1) (the_key a.op) a bound)
     ∙ settled xs x (table xs) os n k least (get-leaves (table xs) a.op update ∙ sym (table-push xs a (the_txn (length xs)) (the_point xs a p) x.told)))
-    (settle-result journal _ xs n least p (moving true (found p) a) a r right right.open_call.0 right.open_call.1.0 (get-reply (table xs) a.op update) (result-found bound))
+    (settle-result journal _ xs n least p (moving true (found p) a) a r right right.open_call.0 right.open_call.1.0 (get-reply (table xs) a.op update)
+    (result-found bound))
 
-good-applied : (journal : List Step) (xs : List Settled) (n k least : ℕ) (os : OutcomeMap) (a : Asked) (p : ℕ) → run_of first_opening journal ≡ trace_in xs n k least os (moving true (applied p) a) → IsRight journal xs n least (moving true (applied p) a) → IsGood (journal ++ (step.Handle 64 0) ∷ [])
+good-applied : (journal : List Step) (xs : List Settled) (n k least : ℕ) (os : OutcomeMap) (a : Asked) (p : ℕ) →
+    run_of first_opening journal ≡ trace_in xs n k least os (moving true (applied p) a) → IsRight journal xs n least (moving true (applied p) a) →
+    IsGood (journal ++ (step.Handle 64 0) ∷ [])
 good-applied journal xs n k least os a p run right =
     let flag = flag_of (get (table xs) (the_key a.op)) a.op in
     let r = reply_with a.op flag in
     let x = answered xs n p a r in
     good journal _ _ run (xs ++ x ∷ []) (n + 1) (k + 1) least os idle
-    (handle-answer (the_brick (after (table xs) a.op) [] os) (library_in xs a committing) (the_library (length xs + 1) []) k n (length xs) (letter.Applied (the_txn (length xs)) flag) a r least (Some a.call) (askeds xs ++ a ∷ []) (mades xs ++ the_point xs a p ∷ []) (tolds xs) right.open_call.0.caller (row-applied (length xs) (length xs + 1) a flag)
+    (handle-answer (the_brick (after (table xs) a.op) [] os) (library_in xs a committing) (the_library (length xs + 1) []) k n (length xs)
+    (letter.Applied (the_txn (length xs)) flag) a r least (Some a.call) (askeds xs ++ a ∷ []) (mades xs ++ the_point xs a p ∷ []) (tolds xs)
+    right.open_call.0.caller (row-applied (length xs) (length xs + 1) a flag)
     ∙ settled xs x (after (table xs) a.op) os n k least (sym (table-push xs a (the_txn (length xs)) (the_point xs a p) x.told)))
-    (settle-result journal _ xs n least p (moving true (applied p) a) a r right right.open_call.0 right.open_call.1.0 (update-reply (table xs) a.op right.open_call.1.1) (result-update a.op flag))
+    (settle-result journal _ xs n least p (moving true (applied p) a) a r right right.open_call.0 right.open_call.1.0
+    (update-reply (table xs) a.op right.open_call.1.1) (result-update a.op flag))
 
-good-aborted : (journal : List Step) (xs : List Settled) (n k least : ℕ) (os : OutcomeMap) (a : Asked) → run_of first_opening journal ≡ trace_in xs n k least os (moving true aborted a) → IsRight journal xs n least (moving true aborted a) → IsGood (journal ++ (step.Handle 64 0) ∷ [])
+good-aborted : (journal : List Step) (xs : List Settled) (n k least : ℕ) (os : OutcomeMap) (a : Asked) →
+    run_of first_opening journal ≡ trace_in xs n k least os (moving true aborted a) → IsRight journal xs n least (moving true aborted a) →
+    IsGood (journal ++ (step.Handle 64 0) ∷ [])
 good-aborted journal xs n k least os a run right =
     let x = refused xs n a in
     good journal _ _ run (xs ++ x ∷ []) (n + 1) (k + 1) least os idle
-    (handle-answer (the_brick (table xs) [] os) (library_in xs a aborting) (the_library (length xs + 1) []) k n (length xs) (letter.Aborted (the_txn (length xs))) a (reply.Full 0) least (Some a.call) (askeds xs ++ a ∷ []) (mades xs ++ []) (tolds xs) right.open_call.0.caller (row-aborted (length xs) (length xs + 1) a)
+    (handle-answer (the_brick (table xs) [] os) (library_in xs a aborting) (the_library (length xs + 1) []) k n (length xs)
+    (letter.Aborted (the_txn (length xs))) a (reply.Full 0) least (Some a.call) (askeds xs ++ a ∷ []) (mades xs ++ []) (tolds xs)
+    right.open_call.0.caller (row-aborted (length xs) (length xs + 1) a)
     ∙ settled xs x (table xs) os n k least (sym (table-kept xs a (the_txn (length xs)) x.told)))
     (settle-refusal journal _ xs n least (moving true aborted a) a right right.open_call.0 right.open_full)
 
@@ -94,7 +114,9 @@ handle_of denied = step.Handle 64 0
 handle_of undone = step.Handle 0 64
 handle_of aborted = step.Handle 64 0
 
-pub good-handle : (journal : List Step) (xs : List Settled) (n k least : ℕ) (os : OutcomeMap) (a : Asked) (stage : Stage) → run_of first_opening journal ≡ trace_in xs n k least os (moving true stage a) → IsRight journal xs n least (moving true stage a) → IsGood (journal ++ (handle_of stage) ∷ [])
+pub good-handle : (journal : List Step) (xs : List Settled) (n k least : ℕ) (os : OutcomeMap) (a : Asked) (stage : Stage) →
+    run_of first_opening journal ≡ trace_in xs n k least os (moving true stage a) → IsRight journal xs n least (moving true stage a) →
+    IsGood (journal ++ (handle_of stage) ∷ [])
 good-handle journal xs n k least os a asked run right = good-asked journal xs n k least os a.place a.caller a.call a.op run right
 good-handle journal xs n k least os a (found p) run right = good-found journal xs n k least os a p run right
 good-handle journal xs n k least os a voted run right = good-voted journal xs n k least os a run right

@@ -128,13 +128,15 @@ abbrev pub stage_world : List Settled → OutcomeMap → ℕ → Bool → Asked 
 stage_world xs os k posted a asked =
     to_brick posted (the_brick (table xs) [] os) (library_in xs a (first_phase a.op)) k (first_letter (length xs) a a.op)
 stage_world xs os k posted a (found place) =
-    to_library posted (the_brick (table xs) [] os) (library_in xs a (Getting first_leaf 0)) k (letter.Got (the_txn (length xs)) (answer_of (get (table xs) (the_key a.op))))
+    to_library posted (the_brick (table xs) [] os) (library_in xs a (Getting first_leaf 0)) k
+    (letter.Got (the_txn (length xs)) (answer_of (get (table xs) (the_key a.op))))
 stage_world xs os k posted a voted =
     to_library posted (the_brick (table xs) (the_pending (length xs) a ∷ []) os) (library_in xs a preparing) k (letter.Vote (the_txn (length xs)) ballot.Yes)
 stage_world xs os k posted a decided =
     to_brick posted (the_brick (table xs) (the_pending (length xs) a ∷ []) os) (library_in xs a committing) k (letter.Commit (the_txn (length xs)))
 stage_world xs os k posted a (applied place) =
-    to_library posted (the_brick (after (table xs) a.op) [] os) (library_in xs a committing) k (letter.Applied (the_txn (length xs)) (flag_of (get (table xs) (the_key a.op)) a.op))
+    to_library posted (the_brick (after (table xs) a.op) [] os) (library_in xs a committing) k
+    (letter.Applied (the_txn (length xs)) (flag_of (get (table xs) (the_key a.op)) a.op))
 stage_world xs os k posted a denied =
     to_library posted (the_brick (table xs) [] os) (library_in xs a preparing) k (letter.Vote (the_txn (length xs)) (ballot.No denial.Full))
 stage_world xs os k posted a undone =

@@ -46,9 +46,11 @@ pub record WasFull (journal : List Step) (a : Asked) (limit : ℕ) : Type 0 wher
   pub update : what.is_update ≡ true
   pub full : has_no_room state a.op ≡ true
 
-handles-later : (journal : List Step) (s : Step) (at : ℕ) (brick : NodeNo) (l : Letter) (state : BrickState) → at < length journal → Handles first_opening journal at brick l state → Handles first_opening (journal ++ s ∷ []) at brick l state
+handles-later : (journal : List Step) (s : Step) (at : ℕ) (brick : NodeNo) (l : Letter) (state : BrickState) → at < length journal →
+    Handles first_opening journal at brick l state → Handles first_opening (journal ++ s ∷ []) at brick l state
 handles-later journal s at brick l state inside h =
-    let w : world_at first_opening journal at ≡ world_at first_opening (journal ++ s ∷ []) at = ap (λ steps. (run_of first_opening steps).world) (sym (take-append-le at journal (s ∷ []) (omega (arith, inside)))) in
+    let w : world_at first_opening journal at ≡ world_at first_opening (journal ++ s ∷ []) at =
+    ap (λ steps. (run_of first_opening steps).world) (sym (take-append-le at journal (s ∷ []) (omega (arith, inside)))) in
     record {
       from = h.from;
       message = h.message;

@@ -18,7 +18,8 @@ none-either false = refl
 
 get-nothing : (q : Name) → get (cut empty first_leaf.name) q ≡ None
 get-nothing q =
-    get-cut empty first_leaf.name q ∙ ap (λ v. cond (not (is_under first_leaf.name q)) v None) (get-empty name_cmp q) ∙ none-either (not (is_under first_leaf.name q))
+    get-cut empty first_leaf.name q ∙ ap (λ v. cond (not (is_under first_leaf.name q)) v None) (get-empty name_cmp q)
+    ∙ none-either (not (is_under first_leaf.name q))
 
 get-here : (q : Name) → get the_map q ≡ cond (q.bits == 0 && q.depth == 0) (Some first_leaf) None
 get-here q =

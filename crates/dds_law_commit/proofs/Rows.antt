@@ -49,8 +49,11 @@ library_answers l n a r =
 abbrev pub begun : ℕ → Asked → LibraryTurn
 begun n a = library_sends (the_library (n + 1) (the_call n a (first_phase a.op) ∷ [])) ((0, first_letter n a a.op) ∷ [])
 
-begins : (n place : ℕ) (call : CallNo) (o : Op) → library_input (the_library n []) 0 call o ≡ input_turn (the_library n []) (new_request 0 call o) (begins_at (desk_of (the_library n []) []) (new_request 0 call o) (Some first_leaf))
-begins n place call o = ap (λ v. input_turn (the_library n []) (new_request 0 call o) (begins_at (desk_of (the_library n []) []) (new_request 0 call o) v)) (leaf-here (the_key o))
+begins : (n place : ℕ) (call : CallNo) (o : Op) →
+    library_input (the_library n []) 0 call o
+    ≡ input_turn (the_library n []) (new_request 0 call o) (begins_at (desk_of (the_library n []) []) (new_request 0 call o) (Some first_leaf))
+begins n place call o = ap (λ v. input_turn (the_library n []) (new_request 0 call o) (begins_at (desk_of (the_library n []) []) (new_request 0 call o) v))
+    (leaf-here (the_key o))
 
 pub row-input : (n place : ℕ) (call : CallNo) (o : Op) → library_input (the_library n []) 0 call o ≡ begun n (new_call place 0 call o)
 row-input n place call (op.Get key) = begins n place call (op.Get key)
@@ -61,9 +64,18 @@ row-input n place call (op.Swap key expected value) = begins n place call (op.Sw
 -- a get reads the key
 abbrev pub read_turn : BrickState → ℕ → ℕ → Option (List ℕ) → BrickTurn
 read_turn b n key bound =
-    record { state = b; out = record { letters = (64, letter.Got (the_txn n) (answer_of bound)) ∷ []; points = point.Read (the_txn n) bound ∷ []; replies = [] } }
+    record {
+      state = b;
+      out = record {
+        letters = (64, letter.Got (the_txn n) (answer_of bound)) ∷ [];
+        points = point.Read (the_txn n) bound ∷ [];
+        replies = [];
+      };
+    }
 
-pub row-get : (m : Map) (os : OutcomeMap) (n key caller : ℕ) (call : CallNo) → brick_turn (the_brick m [] os) 64 (letter.Get (the_txn n) caller call key first_leaf.name first_leaf.stamp) ≡ read_turn (the_brick m [] os) n key (get m key)
+pub row-get : (m : Map) (os : OutcomeMap) (n key caller : ℕ) (call : CallNo) →
+    brick_turn (the_brick m [] os) 64 (letter.Get (the_txn n) caller call key first_leaf.name first_leaf.stamp)
+    ≡ read_turn (the_brick m [] os) n key (get m key)
 row-get m os n key caller call =
     ap (λ v. got (the_brick m [] os) 64 (the_txn n) key (first_some (stale_against v first_leaf.name first_leaf.stamp) None)) (leaf-here key)
 
@@ -71,9 +83,13 @@ row-get m os n key caller call =
 abbrev pub denial_by : Bool → Option Denial
 denial_by full = when full denial.Full
 
-pub row-prepare : (m : Map) (os : OutcomeMap) (n : ℕ) (a : Asked) → brick_turn (the_brick m [] os) 64 (the_prepare n a) ≡ voted (the_brick m [] (trimmed os 64 (the_bound n))) 64 (the_pending n a) (denial_by (has_no_room (the_brick m [] os) a.op))
+pub row-prepare : (m : Map) (os : OutcomeMap) (n : ℕ) (a : Asked) →
+    brick_turn (the_brick m [] os) 64 (the_prepare n a) ≡ voted (the_brick m [] (trimmed os 64 (the_bound n))) 64 (the_pending n a)
+    (denial_by (has_no_room (the_brick m [] os) a.op))
 row-prepare m os n a =
-    ap (λ v. voted (the_brick m [] (trimmed os 64 (the_bound n))) 64 (the_pending n a) (first_some (as_denial (first_some (stale_against v first_leaf.name first_leaf.stamp) None)) (denial_by (has_no_room (the_brick m [] os) a.op)))) (leaf-here (the_key a.op))
+    ap (λ v. voted (the_brick m [] (trimmed os 64 (the_bound n))) 64 (the_pending n a)
+    (first_some (as_denial (first_some (stale_against v first_leaf.name first_leaf.stamp) None)) (denial_by (has_no_room (the_brick m [] os) a.op))))
+    (leaf-here (the_key a.op))
 
 pub same-number : (n : ℕ) → eqb n n ≡ true
 same-number n = grind (arith, nat_tests)
@@ -88,30 +104,42 @@ abbrev pub aborting : Phase
 aborting = Aborting (0 ∷ []) denial.Full 0
 
 -- a vote decides
-pub row-yes : (n k : ℕ) (a : Asked) → library_turn (the_library k (the_call n a preparing ∷ [])) 0 (letter.Vote (the_txn n) ballot.Yes) ≡ library_sends (the_library k (the_call n a committing ∷ [])) ((0, letter.Commit (the_txn n)) ∷ [])
+pub row-yes : (n k : ℕ) (a : Asked) → library_turn (the_library k (the_call n a preparing ∷ [])) 0 (letter.Vote (the_txn n) ballot.Yes)
+    ≡ library_sends (the_library k (the_call n a committing ∷ [])) ((0, letter.Commit (the_txn n)) ∷ [])
 row-yes n k a = rw (same-number n) refl
 
-pub row-no : (n k : ℕ) (a : Asked) → library_turn (the_library k (the_call n a preparing ∷ [])) 0 (letter.Vote (the_txn n) (ballot.No denial.Full)) ≡ library_sends (the_library k (the_call n a aborting ∷ [])) ((0, letter.Abort (the_txn n)) ∷ [])
+pub row-no : (n k : ℕ) (a : Asked) → library_turn (the_library k (the_call n a preparing ∷ [])) 0 (letter.Vote (the_txn n) (ballot.No denial.Full))
+    ≡ library_sends (the_library k (the_call n a aborting ∷ [])) ((0, letter.Abort (the_txn n)) ∷ [])
 row-no n k a = rw (same-number n) refl
 
 -- the update is applied, or was never pending
 abbrev pub apply_turn : Map → OutcomeMap → ℕ → Asked → Bool → BrickTurn
 apply_turn m os n a flag =
-    record { state = the_brick (after m a.op) [] (insert os (the_txn n) true); out = record { letters = (64, letter.Applied (the_txn n) flag) ∷ []; points = point.Applied (the_pending n a) flag ∷ []; replies = [] } }
+    record {
+      state = the_brick (after m a.op) [] (insert os (the_txn n) true);
+      out = record { letters = (64, letter.Applied (the_txn n) flag) ∷ []; points = point.Applied (the_pending n a) flag ∷ []; replies = [] };
+    }
 
-pub row-commit : (m : Map) (os : OutcomeMap) (n : ℕ) (a : Asked) → brick_turn (the_brick m (the_pending n a ∷ []) os) 64 (letter.Commit (the_txn n)) ≡ apply_turn m os n a (flag_of (get m (the_key a.op)) a.op)
+pub row-commit : (m : Map) (os : OutcomeMap) (n : ℕ) (a : Asked) →
+    brick_turn (the_brick m (the_pending n a ∷ []) os) 64 (letter.Commit (the_txn n)) ≡ apply_turn m os n a (flag_of (get m (the_key a.op)) a.op)
 row-commit m os n a = rw (same-number n) refl
 
-pub row-abort : (m : Map) (os : OutcomeMap) (n : ℕ) → brick_turn (the_brick m [] os) 64 (letter.Abort (the_txn n)) ≡ sends (the_brick m [] os) ((64, letter.Aborted (the_txn n)) ∷ [])
+pub row-abort : (m : Map) (os : OutcomeMap) (n : ℕ) →
+    brick_turn (the_brick m [] os) 64 (letter.Abort (the_txn n)) ≡ sends (the_brick m [] os) ((64, letter.Aborted (the_txn n)) ∷ [])
 row-abort m os n = refl
 
 -- a call is answered
-pub row-got : (n k key : ℕ) (a : Asked) (bound : Option (List ℕ)) → library_turn (the_library k (the_call n a (Getting first_leaf 0) ∷ [])) 0 (letter.Got (the_txn n) (answer_of bound)) ≡ library_answers (the_library k []) n a (found bound)
+pub row-got : (n k key : ℕ) (a : Asked) (bound : Option (List ℕ)) →
+    library_turn (the_library k (the_call n a (Getting first_leaf 0) ∷ [])) 0 (letter.Got (the_txn n) (answer_of bound))
+    ≡ library_answers (the_library k []) n a (found bound)
 row-got n k key a None = rw (same-number n) refl
 row-got n k key a (Some value) = rw (same-number n) refl
 
-pub row-applied : (n k : ℕ) (a : Asked) (flag : Bool) → library_turn (the_library k (the_call n a committing ∷ [])) 0 (letter.Applied (the_txn n) flag) ≡ library_answers (the_library k []) n a (reply_with a.op flag)
+pub row-applied : (n k : ℕ) (a : Asked) (flag : Bool) →
+    library_turn (the_library k (the_call n a committing ∷ [])) 0 (letter.Applied (the_txn n) flag)
+    ≡ library_answers (the_library k []) n a (reply_with a.op flag)
 row-applied n k a flag = rw (same-number n) refl
 
-pub row-aborted : (n k : ℕ) (a : Asked) → library_turn (the_library k (the_call n a aborting ∷ [])) 0 (letter.Aborted (the_txn n)) ≡ library_answers (the_library k []) n a (reply.Full 0)
+pub row-aborted : (n k : ℕ) (a : Asked) →
+    library_turn (the_library k (the_call n a aborting ∷ [])) 0 (letter.Aborted (the_txn n)) ≡ library_answers (the_library k []) n a (reply.Full 0)
 row-aborted n k a = rw (same-number n) refl

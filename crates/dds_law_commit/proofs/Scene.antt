@@ -30,7 +30,19 @@ the_map = put empty first_leaf
 
 abbrev pub the_brick : Map → List Pending → OutcomeMap → BrickState
 the_brick pairs pending outcomes =
-    record { number = 0; stopped = false; known = no_nodes; leaves = the_map; pairs = pairs; locks = record { pending = pending; leases = []; outcomes = outcomes }; deferred = []; resolving = []; order = None; orders = 0; made = 0 }
+    record {
+      number = 0;
+      stopped = false;
+      known = no_nodes;
+      leaves = the_map;
+      pairs = pairs;
+      locks = record { pending = pending; leases = []; outcomes = outcomes };
+      deferred = [];
+      resolving = [];
+      order = None;
+      orders = 0;
+      made = 0;
+    }
 
 abbrev pub the_library : ℕ → List OpenCall → LibraryState
 the_library next calls =
@@ -81,7 +93,13 @@ linked false m = []
 
 abbrev pub the_world : BrickState → LibraryState → List Message → List Message → List Message → List Message → ℕ → World
 the_world b l from_brick from_library to_brick to_library made =
-    record { bricks = b ∷ []; libraries = l ∷ []; outboxes = from_brick ∷ from_library ∷ []; links = ([] ∷ to_library ∷ []) ∷ (to_brick ∷ [] ∷ []) ∷ []; made = made }
+    record {
+      bricks = b ∷ [];
+      libraries = l ∷ [];
+      outboxes = from_brick ∷ from_library ∷ [];
+      links = ([] ∷ to_library ∷ []) ∷ (to_brick ∷ [] ∷ []) ∷ [];
+      made = made;
+    }
 
 -- no letter is on its way
 abbrev pub at_rest : BrickState → LibraryState → ℕ → World

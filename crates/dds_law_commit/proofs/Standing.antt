@@ -18,7 +18,8 @@ use Rattle.dds_cluster.specs.declared.trace.Asked.{Asked}
 use Rattle.dds_cluster.specs.declared.trace.Made.{Made}
 use Rattle.dds_cluster.specs.declared.trace.Told.{Told}
 use Rattle.dds_law_commit.proofs.Lists.{all-weaker, all-both, all-map, any-none, filter-all, filter-none}
-use Rattle.dds_law_commit.proofs.Flight.{Settled, IsSettled, IsPointOf, IsRising, mades, tolds, Stage, asked, found, voted, decided, applied, denied, undone, aborted, Flight, idle, moving, trace_in, the_point, IsRight}
+use Rattle.dds_law_commit.proofs.Flight.{Settled, IsSettled, IsPointOf, IsRising, mades, tolds, Stage, asked, found, voted, decided}
+use Rattle.dds_law_commit.proofs.Flight.{applied, denied, undone, aborted, Flight, idle, moving, trace_in, the_point, IsRight}
 use Rattle.dds_law_commit.proofs.Good.{all-mades}
 use Rattle.dds_law_commit.proofs.Scene.{the_txn}
 
@@ -43,14 +44,19 @@ abbrev StandBy : List Told → Settled → Type 0
 StandBy rs x = AllByRecursion (λ m. stands_in rs m ≡ true) x.made
 
 own-stand : (rs : List Told) (x : Settled) → IsSettled x → StandBy (x.told ∷ rs) x
-own-stand rs x s = all-weaker (IsPointOf x.asked x.txn x.told) (λ m. stands_in (x.told ∷ rs) m ≡ true) (λ m p. or-wider (not (is_get m.entry.op)) (is_read_of m.txn x.told.read) (is_answer rs m.txn) p.stands) x.made s.points
+own-stand rs x s = all-weaker (IsPointOf x.asked x.txn x.told) (λ m. stands_in (x.told ∷ rs) m ≡ true)
+    (λ m p. or-wider (not (is_get m.entry.op)) (is_read_of m.txn x.told.read) (is_answer rs m.txn) p.stands) x.made s.points
 
 stand-behind : (r : Told) (rs : List Told) (x : Settled) → StandBy rs x → StandBy (r ∷ rs) x
-stand-behind r rs x h = all-weaker (λ m. stands_in rs m ≡ true) (λ m. stands_in (r ∷ rs) m ≡ true) (λ m e. or-behind (not (is_get m.entry.op)) (is_read_of m.txn r.read) (is_answer rs m.txn) e) x.made h
+stand-behind r rs x h = all-weaker (λ m. stands_in rs m ≡ true) (λ m. stands_in (r ∷ rs) m ≡ true)
+    (λ m e. or-behind (not (is_get m.entry.op)) (is_read_of m.txn r.read) (is_answer rs m.txn) e) x.made h
 
 all-stand : (xs : List Settled) → AllByRecursion IsSettled xs → AllByRecursion (StandBy (tolds xs)) xs
 all-stand [] h = tt
-all-stand (x ∷ xs) h = (own-stand (tolds xs) x h.0, all-weaker (StandBy (tolds xs)) (StandBy (x.told ∷ tolds xs)) (λ y k. stand-behind x.told (tolds xs) y k) xs (all-stand xs h.1))
+all-stand (x ∷ xs) h = (
+  own-stand (tolds xs) x h.0,
+  all-weaker (StandBy (tolds xs)) (StandBy (x.told ∷ tolds xs)) (λ y k. stand-behind x.told (tolds xs) y k) xs (all-stand xs h.1),
+)
 
 settled-stand : (xs : List Settled) → AllByRecursion IsSettled xs → filter (stands_in (tolds xs)) (mades xs) ≡ mades xs
 settled-stand xs h = filter-all (stands_in (tolds xs)) (mades xs) (all-mades (λ m. stands_in (tolds xs) m ≡ true) xs (all-stand xs h))
@@ -77,7 +83,10 @@ IsBelow n x = (x.txn.library ≡ 64) × (x.txn.number < n)
 
 unanswered : (xs : List Settled) (n : ℕ) → AllByRecursion IsSettled xs → AllByRecursion (IsBelow n) xs → is_answer (tolds xs) (the_txn n) ≡ false
 unanswered xs n each numbers =
-    any-none (λ r. is_read_of (the_txn n) r.read) (tolds xs) (all-map (λ (x : Settled). x.told) (λ r. is_read_of (the_txn n) r.read ≡ false) xs (all-weaker (λ x. IsSettled x × IsBelow n x) (λ x. is_read_of (the_txn n) x.told.read ≡ false) (λ x k. unread-settled n x k.0 k.1.1) xs (all-both IsSettled (IsBelow n) xs each numbers)))
+    any-none (λ r. is_read_of (the_txn n) r.read) (tolds xs)
+    (all-map (λ (x : Settled). x.told) (λ r. is_read_of (the_txn n) r.read ≡ false) xs
+    (all-weaker (λ x. IsSettled x × IsBelow n x) (λ x. is_read_of (the_txn n) x.told.read ≡ false) (λ x k. unread-settled n x k.0 k.1.1) xs
+    (all-both IsSettled (IsBelow n) xs each numbers)))
 
 -- the entries of the history behind those of the settled calls
 abbrev pub stage_extra : List Settled → Asked → Stage → List Made
@@ -94,16 +103,20 @@ abbrev pub extra : List Settled → Flight → List Made
 extra xs idle = []
 extra xs (moving posted stage a) = stage_extra xs a stage
 
-placed-front : (xs : List Settled) (more : List Made) → AllByRecursion IsSettled xs → filter (stands_in (tolds xs)) (mades xs ++ more) ≡ mades xs ++ filter (stands_in (tolds xs)) more
+placed-front : (xs : List Settled) (more : List Made) → AllByRecursion IsSettled xs → filter (stands_in (tolds xs)) (mades xs ++ more) ≡ mades xs
+    ++ filter (stands_in (tolds xs)) more
 placed-front xs more h = filter-append (stands_in (tolds xs)) (mades xs) more ∙ ap (λ t. t ++ filter (stands_in (tolds xs)) more) (settled-stand xs h)
 
-pub placed : (journal : List Step) (xs : List Settled) (n k least : ℕ) (os : OutcomeMap) (f : Flight) → IsRight journal xs n least f → placed_history (trace_in xs n k least os f) ≡ mades xs ++ extra xs f
+pub placed : (journal : List Step) (xs : List Settled) (n k least : ℕ) (os : OutcomeMap) (f : Flight) → IsRight journal xs n least f →
+    placed_history (trace_in xs n k least os f) ≡ mades xs ++ extra xs f
 placed journal xs n k least os idle r = placed-front xs [] r.each
 placed journal xs n k least os (moving posted asked a) r = placed-front xs [] r.each
-placed journal xs n k least os (moving posted (found p) a) r = placed-front xs (the_point xs a p ∷ []) r.each ∙ ap (λ t. mades xs ++ t) (let g : is_get a.op ≡ true = r.open_call.1.1 in rw (g, unanswered xs (length xs) r.each r.numbers) refl)
+placed journal xs n k least os (moving posted (found p) a) r = placed-front xs (the_point xs a p ∷ []) r.each
+    ∙ ap (λ t. mades xs ++ t) (let g : is_get a.op ≡ true = r.open_call.1.1 in rw (g, unanswered xs (length xs) r.each r.numbers) refl)
 placed journal xs n k least os (moving posted voted a) r = placed-front xs [] r.each
 placed journal xs n k least os (moving posted decided a) r = placed-front xs [] r.each
-placed journal xs n k least os (moving posted (applied p) a) r = placed-front xs (the_point xs a p ∷ []) r.each ∙ ap (λ t. mades xs ++ t) (let g : is_get a.op ≡ false = r.open_call.1.1 in rw g refl)
+placed journal xs n k least os (moving posted (applied p) a) r = placed-front xs (the_point xs a p ∷ []) r.each
+    ∙ ap (λ t. mades xs ++ t) (let g : is_get a.op ≡ false = r.open_call.1.1 in rw g refl)
 placed journal xs n k least os (moving posted denied a) r = placed-front xs [] r.each
 placed journal xs n k least os (moving posted undone a) r = placed-front xs [] r.each
 placed journal xs n k least os (moving posted aborted a) r = placed-front xs [] r.each
@@ -136,13 +149,19 @@ point-apart a b t told m ne p = other-call m.entry.caller a.caller m.entry.call 
 
 -- points of one call are of no other
 own-points : (x : Settled) → IsSettled x → filter (belongs x.asked) x.made ≡ x.made
-own-points x s = filter-all (belongs x.asked) x.made (all-weaker (IsPointOf x.asked x.txn x.told) (λ m. belongs x.asked m ≡ true) (λ m p. point-belongs x.asked x.txn x.told m p) x.made s.points)
+own-points x s = filter-all (belongs x.asked) x.made
+    (all-weaker (IsPointOf x.asked x.txn x.told) (λ m. belongs x.asked m ≡ true) (λ m p. point-belongs x.asked x.txn x.told m p) x.made s.points)
 
 apart-points : (a : Asked) (y : Settled) → IsSettled y → (y.asked.call.0 ≡ a.call.0 → ⊥) → AllByRecursion (λ m. belongs a m ≡ false) y.made
-apart-points a y s ne = all-weaker (IsPointOf y.asked y.txn y.told) (λ m. belongs a m ≡ false) (λ m p. point-apart a y.asked y.txn y.told m ne p) y.made s.points
+apart-points a y s ne = all-weaker (IsPointOf y.asked y.txn y.told) (λ m. belongs a m ≡ false) (λ m p. point-apart a y.asked y.txn y.told m ne p) y.made
+    s.points
 
-pub no-points : (a : Asked) (ys : List Settled) → AllByRecursion IsSettled ys → AllByRecursion (λ y. y.asked.call.0 ≡ a.call.0 → ⊥) ys → filter (belongs a) (mades ys) ≡ []
-no-points a ys each apart = filter-none (belongs a) (mades ys) (all-mades (λ m. belongs a m ≡ false) ys (all-weaker (λ y. IsSettled y × (y.asked.call.0 ≡ a.call.0 → ⊥)) (λ y. AllByRecursion (λ m. belongs a m ≡ false) y.made) (λ y h. apart-points a y h.0 h.1) ys (all-both IsSettled (λ y. y.asked.call.0 ≡ a.call.0 → ⊥) ys each apart)))
+pub no-points : (a : Asked) (ys : List Settled) → AllByRecursion IsSettled ys → AllByRecursion (λ y. y.asked.call.0 ≡ a.call.0 → ⊥) ys →
+    filter (belongs a) (mades ys) ≡ []
+no-points a ys each apart = filter-none (belongs a) (mades ys)
+    (all-mades (λ m. belongs a m ≡ false) ys
+    (all-weaker (λ y. IsSettled y × (y.asked.call.0 ≡ a.call.0 → ⊥)) (λ y. AllByRecursion (λ m. belongs a m ≡ false) y.made)
+    (λ y h. apart-points a y h.0 h.1) ys (all-both IsSettled (λ y. y.asked.call.0 ≡ a.call.0 → ⊥) ys each apart)))
 
 less-apart : (a b : ℕ) → a < b → b ≡ a → ⊥
 less-apart a b h e = omega (arith, h, e)
@@ -151,28 +170,49 @@ pub more-apart : (a b : ℕ) → a < b → a ≡ b → ⊥
 more-apart a b h e = omega (arith, h, e)
 
 none-later : (a : Asked) (more : List Made) → AllByRecursion (λ m. a.call.0 < m.entry.call.0) more → filter (belongs a) more ≡ []
-none-later a more later = filter-none (belongs a) more (all-weaker (λ m. a.call.0 < m.entry.call.0) (λ m. belongs a m ≡ false) (λ m k. other-call m.entry.caller a.caller m.entry.call a.call (less-apart a.call.0 m.entry.call.0 k)) more later)
+none-later a more later = filter-none (belongs a) more
+    (all-weaker (λ m. a.call.0 < m.entry.call.0) (λ m. belongs a m ≡ false)
+    (λ m k. other-call m.entry.caller a.caller m.entry.call a.call (less-apart a.call.0 m.entry.call.0 k)) more later)
 
-found-head : (x : Settled) (ys : List Settled) (more : List Made) → IsSettled x → AllByRecursion IsSettled ys → AllByRecursion (λ y. x.asked.call.0 < y.asked.call.0) ys → AllByRecursion (λ m. x.asked.call.0 < m.entry.call.0) more → IsFound (tolds (x ∷ ys)) (mades (x ∷ ys) ++ more) x
+found-head : (x : Settled) (ys : List Settled) (more : List Made) → IsSettled x → AllByRecursion IsSettled ys →
+    AllByRecursion (λ y. x.asked.call.0 < y.asked.call.0) ys → AllByRecursion (λ m. x.asked.call.0 < m.entry.call.0) more →
+    IsFound (tolds (x ∷ ys)) (mades (x ∷ ys) ++ more) x
 found-head x ys more s each rises later =
     let t : answers x.asked.caller x.asked.call x.told ≡ true = same-call x.told.caller x.asked.caller x.told.call x.asked.call s.told_caller s.told_call in (
       rw t refl,
       filter-append (belongs x.asked) (x.made ++ mades ys) more
           ∙ ap (λ t. t ++ filter (belongs x.asked) more) (filter-append (belongs x.asked) x.made (mades ys))
-          ∙ rw (own-points x s, no-points x.asked ys each (all-weaker (λ y. x.asked.call.0 < y.asked.call.0) (λ y. y.asked.call.0 ≡ x.asked.call.0 → ⊥) (λ y h. less-apart x.asked.call.0 y.asked.call.0 h) ys rises), none-later x.asked more later) (append-nil (x.made ++ []) ∙ append-nil x.made),
+          ∙ rw (
+            own-points x s,
+            no-points x.asked ys each
+                (all-weaker (λ y. x.asked.call.0 < y.asked.call.0) (λ y. y.asked.call.0 ≡ x.asked.call.0 →
+                ⊥) (λ y h. less-apart x.asked.call.0 y.asked.call.0 h) ys rises),
+            none-later x.asked more later,
+          )
+          (append-nil (x.made ++ []) ∙ append-nil x.made),
     )
 
-found-tail : (x : Settled) (ys : List Settled) (more : List Made) (y : Settled) → IsSettled x → x.asked.call.0 < y.asked.call.0 → IsFound (tolds ys) (mades ys ++ more) y → IsFound (tolds (x ∷ ys)) (mades (x ∷ ys) ++ more) y
+found-tail : (x : Settled) (ys : List Settled) (more : List Made) (y : Settled) → IsSettled x → x.asked.call.0 < y.asked.call.0 →
+    IsFound (tolds ys) (mades ys ++ more) y → IsFound (tolds (x ∷ ys)) (mades (x ∷ ys) ++ more) y
 found-tail x ys more y s h behind =
-    let t : answers y.asked.caller y.asked.call x.told ≡ false = other-call x.told.caller y.asked.caller x.told.call y.asked.call (λ e. more-apart x.asked.call.0 y.asked.call.0 h (sym (ap (λ (c : CallNo). c.0) s.told_call) ∙ e)) in (
+    let t : answers y.asked.caller y.asked.call x.told ≡ false =
+    other-call x.told.caller y.asked.caller x.told.call y.asked.call
+    (λ e. more-apart x.asked.call.0 y.asked.call.0 h (sym (ap (λ (c : CallNo). c.0) s.told_call) ∙ e)) in (
       rw t behind.0,
       ap (filter (belongs y.asked)) (append_assoc x.made (mades ys) more)
           ∙ filter-append (belongs y.asked) x.made (mades ys ++ more)
-          ∙ ap (λ t. t ++ filter (belongs y.asked) (mades ys ++ more)) (filter-none (belongs y.asked) x.made (apart-points y.asked x s (more-apart x.asked.call.0 y.asked.call.0 h)))
+          ∙ ap (λ t. t ++ filter (belongs y.asked) (mades ys ++ more))
+          (filter-none (belongs y.asked) x.made (apart-points y.asked x s (more-apart x.asked.call.0 y.asked.call.0 h)))
           ∙ behind.1,
     )
 
-pub all-found : (xs : List Settled) (more : List Made) → AllByRecursion IsSettled xs → IsRising xs → AllByRecursion (λ x. AllByRecursion (λ m. x.asked.call.0 < m.entry.call.0) more) xs → AllByRecursion (λ x. IsFound (tolds xs) (mades xs ++ more) x) xs
+pub all-found : (xs : List Settled) (more : List Made) → AllByRecursion IsSettled xs → IsRising xs →
+    AllByRecursion (λ x. AllByRecursion (λ m. x.asked.call.0 < m.entry.call.0) more) xs → AllByRecursion (λ x. IsFound (tolds xs) (mades xs ++ more) x) xs
 all-found [] more each rising later = tt
-all-found (x ∷ ys) more each rising later =
-    (found-head x ys more each.0 each.1 rising.0 later.0, all-weaker (λ y. (x.asked.call.0 < y.asked.call.0) × IsFound (tolds ys) (mades ys ++ more) y) (λ y. IsFound (tolds (x ∷ ys)) (mades (x ∷ ys) ++ more) y) (λ y k. found-tail x ys more y each.0 k.0 k.1) ys (all-both (λ y. x.asked.call.0 < y.asked.call.0) (λ y. IsFound (tolds ys) (mades ys ++ more) y) ys rising.0 (all-found ys more each.1 rising.1 later.1)))
+all-found (x ∷ ys) more each rising later = (
+  found-head x ys more each.0 each.1 rising.0 later.0,
+  all-weaker (λ y. (x.asked.call.0 < y.asked.call.0) × IsFound (tolds ys) (mades ys ++ more) y)
+      (λ y. IsFound (tolds (x ∷ ys)) (mades (x ∷ ys) ++ more) y) (λ y k. found-tail x ys more y each.0 k.0 k.1) ys
+      (all-both (λ y. x.asked.call.0 < y.asked.call.0) (λ y. IsFound (tolds ys) (mades ys ++ more) y) ys rising.0
+      (all-found ys more each.1 rising.1 later.1)),
+)

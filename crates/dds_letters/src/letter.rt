@@ -1,7 +1,6 @@
 //! The letters between nodes.
 
 ghost use Rattle.std.specs.Prelude.{◌≡◌, IfOk};
-ghost use Rattle.dds_letters.specs.Letter.{call_of};
 
 use crate::copied_pairs::CopiedPairs;
 use crate::refusal::{Answer, Ballot, Refusal, Wanted};
@@ -256,38 +255,5 @@ impl Letter {
             },
             Letter::Notice => Letter::Notice,
         })
-    }
-
-    /// The call that a letter asks for: of `Get`, `Prepare` and `MapAsk` alone.
-    pub fn call_of(&self) -> Option<(CallerNo, CallNo)>
-        ensures { result ≡ call_of self.now }
-    {
-        match self {
-            Letter::Get {
-                txn: _,
-                caller,
-                call,
-                key: _,
-                name: _,
-                stamp: _,
-            } => Some((*caller, *call)),
-            Letter::Prepare {
-                txn: _,
-                caller,
-                call,
-                below: _,
-                name: _,
-                stamp: _,
-                list: _,
-                op: _,
-            } => Some((*caller, *call)),
-            Letter::MapAsk {
-                txn: _,
-                caller,
-                call,
-                key: _,
-            } => Some((*caller, *call)),
-            _ => None,
-        }
     }
 }

@@ -1,5 +1,6 @@
 -- Which keys are locked, and how often a transaction is pending, with one more and without one.
-use Rattle.std.proofs.Common.{◌≡◌, ℕ, ◌+◌, ◌-◌, ◌==◌, ◌<◌, ◌⊎◌, inl, inr, Bool, true, false, cond, eqb, List, [], ◌∷◌, ◌++◌, Option, Some, None, is_some, refl, ap, sym, ◌∙◌, subst, arith}
+use Rattle.std.proofs.Common.{◌≡◌, ℕ, ◌+◌, ◌-◌, ◌==◌, ◌<◌, ◌⊎◌, inl, inr, Bool, true, false, cond, eqb, List, [], ◌∷◌, ◌++◌, Option, Some}
+use Rattle.std.proofs.Common.{None, is_some, refl, ap, sym, ◌∙◌, subst, arith}
 use Rattle.std.proofs.lemmas.Bool.{false≢true}
 use Rattle.std.proofs.lemmas.Bool.Decides.{nat_tests}
 use Rattle.std.specs.List.{find}
@@ -30,14 +31,17 @@ both false false n = refl
 -- two tests of one number for two keys that differ
 swap-keys : {A : Type 0} (a k q : ℕ) (v w z : A) → (a == k) ≡ false → cond (a == q) v (cond (k == q) w z) ≡ cond (k == q) w (cond (a == q) v z)
 swap-keys a k q v w z h =
-    elim (eqb a q) as (λ b. eqb a q ≡ b → cond b v (cond (k == q) w z) ≡ cond (k == q) w (cond b v z)) [ true ↦ λ e. let ne : (k == q) ≡ false = grind (arith, nat_tests, h, e) in rw ne refl | false ↦ λ e. refl ] refl
+    elim (eqb a q) as (λ b. eqb a q ≡ b → cond b v (cond (k == q) w z) ≡ cond (k == q) w (cond b v z))
+    [ true ↦ λ e. let ne : (k == q) ≡ false = grind (arith, nat_tests, h, e) in rw ne refl | false ↦ λ e. refl ] refl
 
-pub holder-push : (ps : List Pending) (p : Pending) (q : ℕ) → holder ps (the_key p.op) ≡ None → holder (ps ++ p ∷ []) q ≡ cond (the_key p.op == q) (Some p.txn) (holder ps q)
+pub holder-push : (ps : List Pending) (p : Pending) (q : ℕ) → holder ps (the_key p.op) ≡ None →
+    holder (ps ++ p ∷ []) q ≡ cond (the_key p.op == q) (Some p.txn) (holder ps q)
 holder-push [] p q h = refl
 holder-push (x ∷ ps) p q h =
     let rest : holder ps (the_key p.op) ≡ None = tail-free (the_key x.op == the_key p.op) x.txn (holder ps (the_key p.op)) h in
     let apart : (the_key x.op == the_key p.op) ≡ false = head-free (the_key x.op == the_key p.op) x.txn (holder ps (the_key p.op)) h in
-    ap (λ v. cond (the_key x.op == q) (Some x.txn) v) (holder-push ps p q rest) ∙ swap-keys (the_key x.op) (the_key p.op) q (Some x.txn) (Some p.txn) (holder ps q) apart
+    ap (λ v. cond (the_key x.op == q) (Some x.txn) v) (holder-push ps p q rest)
+    ∙ swap-keys (the_key x.op) (the_key p.op) q (Some x.txn) (Some p.txn) (holder ps q) apart
 
 apart-other : (k x : ℕ) (t : Txn) (rest : Option Txn) → (x == k) ≡ false → rest ≡ None → cond (k == x) (Some t) rest ≡ None
 apart-other k x t rest h r = let ne : (k == x) ≡ false = grind (arith, nat_tests, h) in rw ne r
@@ -60,10 +64,12 @@ free-without test (x ∷ ps) k h =
 pub apart-without : (test : Pending → Bool) (ps : List Pending) → IsApart ps → IsApart (without_first test ps)
 apart-without test [] a = a
 apart-without test (x ∷ ps) a =
-    elim (test x) as (λ b. IsApart (cond b ps (x ∷ without_first test ps))) [ true ↦ a.1 | false ↦ (free-without test ps (the_key x.op) a.0, apart-without test ps a.1) ]
+    elim (test x) as (λ b. IsApart (cond b ps (x ∷ without_first test ps)))
+    [ true ↦ a.1 | false ↦ (free-without test ps (the_key x.op) a.0, apart-without test ps a.1) ]
 
 -- the first that passes is the head, or is found behind it
-found-head : (test : Pending → Bool) (b : Bool) (x : Pending) (ps : List Pending) (p : Pending) → test x ≡ b → cond b (Some x) (find test ps) ≡ Some p → ((test x ≡ true) × (x ≡ p)) ⊎ ((test x ≡ false) × (find test ps ≡ Some p))
+found-head : (test : Pending → Bool) (b : Bool) (x : Pending) (ps : List Pending) (p : Pending) → test x ≡ b → cond b (Some x) (find test ps) ≡ Some p →
+    ((test x ≡ true) × (x ≡ p)) ⊎ ((test x ≡ false) × (find test ps ≡ Some p))
 found-head test true x ps p e h = inl (e, cc)
 found-head test false x ps p e h = inr (e, h)
 
@@ -78,21 +84,37 @@ held-more false t rest h = h
 found-held : (test : Pending → Bool) (ps : List Pending) (p : Pending) → find test ps ≡ Some p → is_some (holder ps (the_key p.op)) ≡ true
 found-held test [] p h = cc
 found-held test (x ∷ ps) p h =
-    elim (found-head test (test x) x ps p refl h) [ inl w ↦ subst (λ (y : Pending). is_some (cond (the_key x.op == the_key y.op) (Some x.txn) (holder ps (the_key y.op))) ≡ true) w.1 (rw (self-key (the_key x.op)) refl) | inr w ↦ held-more (the_key x.op == the_key p.op) x.txn (holder ps (the_key p.op)) (found-held test ps p w.1) ]
+    elim (found-head test (test x) x ps p refl h) [
+      | inl w ↦ subst (λ (y : Pending). is_some (cond (the_key x.op == the_key y.op) (Some x.txn) (holder ps (the_key y.op))) ≡ true) w.1
+          (rw (self-key (the_key x.op)) refl)
+      | inr w ↦ held-more (the_key x.op == the_key p.op) x.txn (holder ps (the_key p.op)) (found-held test ps p w.1)
+    ]
 
 other-key : (ps : List Pending) (x k : ℕ) → holder ps x ≡ None → is_some (holder ps k) ≡ true → (x == k) ≡ false
 other-key ps x k free held =
-    elim (eqb x k) as (λ b. eqb x k ≡ b → b ≡ false) [ true ↦ λ e. let same : x ≡ k = grind (arith, nat_tests, e) in absurd (false≢true (sym (ap is_some free) ∙ ap (λ q. is_some (holder ps q)) same ∙ held)) | false ↦ λ e. refl ] refl
+    elim (eqb x k) as (λ b. eqb x k ≡ b → b ≡ false) [
+      | true ↦ λ e. let same : x ≡ k = grind (arith, nat_tests, e) in
+          absurd (false≢true (sym (ap is_some free) ∙ ap (λ q. is_some (holder ps q)) same ∙ held))
+      | false ↦ λ e. refl
+    ] refl
 
 freed-head : (ps : List Pending) (x q : ℕ) (t : Txn) → holder ps x ≡ None → holder ps q ≡ cond (x == q) None (cond (x == q) (Some t) (holder ps q))
 freed-head ps x q t free =
-    elim (eqb x q) as (λ b. eqb x q ≡ b → holder ps q ≡ cond b None (cond b (Some t) (holder ps q))) [ true ↦ λ e. let same : x ≡ q = grind (arith, nat_tests, e) in ap (holder ps) (sym same) ∙ free | false ↦ λ e. refl ] refl
+    elim (eqb x q) as (λ b. eqb x q ≡ b → holder ps q ≡ cond b None (cond b (Some t) (holder ps q)))
+    [ true ↦ λ e. let same : x ≡ q = grind (arith, nat_tests, e) in ap (holder ps) (sym same) ∙ free | false ↦ λ e. refl ] refl
 
 -- without the first that passes its key is free, and no other key changes
-pub holder-without : (test : Pending → Bool) (ps : List Pending) (p : Pending) (q : ℕ) → IsApart ps → find test ps ≡ Some p → holder (without_first test ps) q ≡ cond (the_key p.op == q) None (holder ps q)
+pub holder-without : (test : Pending → Bool) (ps : List Pending) (p : Pending) (q : ℕ) → IsApart ps → find test ps ≡ Some p →
+    holder (without_first test ps) q ≡ cond (the_key p.op == q) None (holder ps q)
 holder-without test [] p q a h = cc
 holder-without test (x ∷ ps) p q a h =
-    elim (found-head test (test x) x ps p refl h) [ inl w ↦ subst (λ (y : Pending). holder (without_first test (x ∷ ps)) q ≡ cond (the_key y.op == q) None (holder (x ∷ ps) q)) w.1 (rw w.0 (freed-head ps (the_key x.op) q x.txn a.0)) | inr w ↦ rw w.0 (ap (λ v. cond (the_key x.op == q) (Some x.txn) v) (holder-without test ps p q a.1 w.1) ∙ swap-keys (the_key x.op) (the_key p.op) q (Some x.txn) None (holder ps q) (other-key ps (the_key x.op) (the_key p.op) a.0 (found-held test ps p w.1))) ]
+    elim (found-head test (test x) x ps p refl h) [
+      | inl w ↦ subst (λ (y : Pending). holder (without_first test (x ∷ ps)) q ≡ cond (the_key y.op == q) None (holder (x ∷ ps) q)) w.1
+          (rw w.0 (freed-head ps (the_key x.op) q x.txn a.0))
+      | inr w ↦ rw w.0 (ap (λ v. cond (the_key x.op == q) (Some x.txn) v) (holder-without test ps p q a.1 w.1)
+          ∙ swap-keys (the_key x.op) (the_key p.op) q (Some x.txn) None (holder ps q)
+          (other-key ps (the_key x.op) (the_key p.op) a.0 (found-held test ps p w.1)))
+    ]
 
 pub times-push : (ps : List Pending) (p : Pending) (t : Txn) → times (ps ++ p ∷ []) t ≡ cond (same_txn p.txn t) (times ps t + 1) (times ps t)
 times-push [] p t = refl
@@ -106,7 +128,10 @@ times-more false n h = h
 found-times : (test : Pending → Bool) (ps : List Pending) (p : Pending) (t : Txn) → find test ps ≡ Some p → same_txn p.txn t ≡ true → 0 < times ps t
 found-times test [] p t h s = cc
 found-times test (x ∷ ps) p t h s =
-    elim (found-head test (test x) x ps p refl h) [ inl w ↦ let k : same_txn x.txn t ≡ true = ap (λ (y : Pending). same_txn y.txn t) w.1 ∙ s in rw k (omega arith) | inr w ↦ times-more (same_txn x.txn t) (times ps t) (found-times test ps p t w.1 s) ]
+    elim (found-head test (test x) x ps p refl h) [
+      | inl w ↦ let k : same_txn x.txn t ≡ true = ap (λ (y : Pending). same_txn y.txn t) w.1 ∙ s in rw k (omega arith)
+      | inr w ↦ times-more (same_txn x.txn t) (times ps t) (found-times test ps p t w.1 s)
+    ]
 
 less-head : (b : Bool) (n : ℕ) → n ≡ cond b (cond b (n + 1) n - 1) (cond b (n + 1) n)
 less-head true n = omega arith
@@ -119,16 +144,23 @@ less-rest false true n h = refl
 less-rest false false n h = refl
 
 -- without the first that passes it is counted once less
-pub times-without : (test : Pending → Bool) (ps : List Pending) (p : Pending) (t : Txn) → find test ps ≡ Some p → times (without_first test ps) t ≡ cond (same_txn p.txn t) (times ps t - 1) (times ps t)
+pub times-without : (test : Pending → Bool) (ps : List Pending) (p : Pending) (t : Txn) → find test ps ≡ Some p →
+    times (without_first test ps) t ≡ cond (same_txn p.txn t) (times ps t - 1) (times ps t)
 times-without test [] p t h = cc
 times-without test (x ∷ ps) p t h =
-    elim (found-head test (test x) x ps p refl h) [ inl w ↦ subst (λ (y : Pending). times (without_first test (x ∷ ps)) t ≡ cond (same_txn y.txn t) (times (x ∷ ps) t - 1) (times (x ∷ ps) t)) w.1 (rw w.0 (less-head (same_txn x.txn t) (times ps t))) | inr w ↦ rw w.0 (ap (λ n. cond (same_txn x.txn t) (n + 1) n) (times-without test ps p t w.1) ∙ less-rest (same_txn x.txn t) (same_txn p.txn t) (times ps t) (found-times test ps p t w.1)) ]
+    elim (found-head test (test x) x ps p refl h) [
+      | inl w ↦ subst (λ (y : Pending). times (without_first test (x ∷ ps)) t ≡ cond (same_txn y.txn t) (times (x ∷ ps) t - 1) (times (x ∷ ps) t)) w.1
+          (rw w.0 (less-head (same_txn x.txn t) (times ps t)))
+      | inr w ↦ rw w.0 (ap (λ n. cond (same_txn x.txn t) (n + 1) n) (times-without test ps p t w.1)
+          ∙ less-rest (same_txn x.txn t) (same_txn p.txn t) (times ps t) (found-times test ps p t w.1))
+    ]
 
 -- one that is found has the number that was looked for
 pub found-numbered : (ps : List Pending) (p : Pending) (txn : Txn) → find (is_numbered txn) ps ≡ Some p → same_txn p.txn txn ≡ true
 found-numbered [] p txn h = cc
 found-numbered (x ∷ ps) p txn h =
-    elim (found-head (is_numbered txn) (is_numbered txn x) x ps p refl h) [ inl w ↦ ap (λ (y : Pending). same_txn y.txn txn) (sym w.1) ∙ w.0 | inr w ↦ found-numbered ps p txn w.1 ]
+    elim (found-head (is_numbered txn) (is_numbered txn x) x ps p refl h)
+    [ inl w ↦ ap (λ (y : Pending). same_txn y.txn txn) (sym w.1) ∙ w.0 | inr w ↦ found-numbered ps p txn w.1 ]
 
 same-as : (a b t : Txn) → same_txn a b ≡ true → same_txn a t ≡ same_txn b t
 same-as a b t h = grind (arith, nat_tests, h)
@@ -137,23 +169,30 @@ alike : (k q : ℕ) → is_at (nat_cmp k) q ≡ (k == q)
 alike k q = grind (arith, nat_tests)
 
 -- the index of the list with one more
-pub indexed-push : (ps : List Pending) (p : Pending) (k : ℕ) (t : Txn) (keys keys' : BTreeMap ℕ Txn) (counts counts' : BTreeMap Txn ℕ) → IsIndexed ps keys counts → k ≡ the_key p.op → t ≡ p.txn → holder ps (the_key p.op) ≡ None →
+pub indexed-push : (ps : List Pending) (p : Pending) (k : ℕ) (t : Txn) (keys keys' : BTreeMap ℕ Txn) (counts counts' : BTreeMap Txn ℕ) →
+    IsIndexed ps keys counts → k ≡ the_key p.op → t ≡ p.txn → holder ps (the_key p.op) ≡ None →
     ((q : ℕ) → tree.get nat_cmp keys' q ≡ cond (is_at (nat_cmp k) q) (Some t) (tree.get nat_cmp keys q)) →
     ((q : Txn) → count_at counts' q ≡ cond (same_txn t q) (count_at counts q + 1) (count_at counts q)) → IsIndexed (ps ++ p ∷ []) keys' counts'
 indexed-push ps p k t keys keys' counts counts' h ke te free added raised =
     record {
       apart = apart-push ps p h.apart free;
-      held = λ q. added q ∙ ap (λ b. cond b (Some t) (tree.get nat_cmp keys q)) (alike k q) ∙ ap (λ v. cond (k == q) (Some t) v) (h.held q) ∙ ap (λ n. cond (n == q) (Some t) (holder ps q)) ke ∙ ap (λ y. cond (the_key p.op == q) (Some y) (holder ps q)) te ∙ sym (holder-push ps p q free);
-      counted = λ q. raised q ∙ ap (λ n. cond (same_txn t q) (n + 1) n) (h.counted q) ∙ ap (λ y. cond (same_txn y q) (times ps q + 1) (times ps q)) te ∙ sym (times-push ps p q);
+      held = λ q. added q ∙ ap (λ b. cond b (Some t) (tree.get nat_cmp keys q)) (alike k q) ∙ ap (λ v. cond (k == q) (Some t) v) (h.held q)
+          ∙ ap (λ n. cond (n == q) (Some t) (holder ps q)) ke ∙ ap (λ y. cond (the_key p.op == q) (Some y) (holder ps q)) te ∙ sym (holder-push ps p q free);
+      counted = λ q. raised q ∙ ap (λ n. cond (same_txn t q) (n + 1) n) (h.counted q) ∙ ap (λ y. cond (same_txn y q) (times ps q + 1) (times ps q)) te
+          ∙ sym (times-push ps p q);
     }
 
 -- the index of the list without the first of a number
-pub indexed-without : (ps qs : List Pending) (p : Pending) (k : ℕ) (t : Txn) (keys keys' : BTreeMap ℕ Txn) (counts counts' : BTreeMap Txn ℕ) → IsIndexed ps keys counts → find (is_numbered t) ps ≡ Some p → qs ≡ without_first (is_numbered t) ps → k ≡ the_key p.op →
+pub indexed-without : (ps qs : List Pending) (p : Pending) (k : ℕ) (t : Txn) (keys keys' : BTreeMap ℕ Txn) (counts counts' : BTreeMap Txn ℕ) →
+    IsIndexed ps keys counts → find (is_numbered t) ps ≡ Some p → qs ≡ without_first (is_numbered t) ps → k ≡ the_key p.op →
     ((q : ℕ) → tree.get nat_cmp keys' q ≡ cond (is_at (nat_cmp k) q) None (tree.get nat_cmp keys q)) →
     ((q : Txn) → count_at counts' q ≡ cond (same_txn t q) (count_at counts q - 1) (count_at counts q)) → IsIndexed qs keys' counts'
 indexed-without ps qs p k t keys keys' counts counts' h found left ke removed lowered =
     record {
       apart = rw left (apart-without (is_numbered t) ps h.apart);
-      held = λ q. removed q ∙ ap (λ b. cond b None (tree.get nat_cmp keys q)) (alike k q) ∙ ap (λ v. cond (k == q) None v) (h.held q) ∙ ap (λ n. cond (n == q) None (holder ps q)) ke ∙ sym (holder-without (is_numbered t) ps p q h.apart found) ∙ ap (λ xs. holder xs q) (sym left);
-      counted = λ q. lowered q ∙ ap (λ n. cond (same_txn t q) (n - 1) n) (h.counted q) ∙ ap (λ b. cond b (times ps q - 1) (times ps q)) (sym (same-as p.txn t q (found-numbered ps p t found))) ∙ sym (times-without (is_numbered t) ps p q found) ∙ ap (λ xs. times xs q) (sym left);
+      held = λ q. removed q ∙ ap (λ b. cond b None (tree.get nat_cmp keys q)) (alike k q) ∙ ap (λ v. cond (k == q) None v) (h.held q)
+          ∙ ap (λ n. cond (n == q) None (holder ps q)) ke ∙ sym (holder-without (is_numbered t) ps p q h.apart found) ∙ ap (λ xs. holder xs q) (sym left);
+      counted = λ q. lowered q ∙ ap (λ n. cond (same_txn t q) (n - 1) n) (h.counted q)
+          ∙ ap (λ b. cond b (times ps q - 1) (times ps q)) (sym (same-as p.txn t q (found-numbered ps p t found)))
+          ∙ sym (times-without (is_numbered t) ps p q found) ∙ ap (λ xs. times xs q) (sym left);
     }

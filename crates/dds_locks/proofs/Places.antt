@@ -1,5 +1,6 @@
 -- Lists without their first item that passes a test.
-use Rattle.std.proofs.Common.{◌≡◌, ℕ, ◌+◌, ◌<◌, ◌≤◌, Bool, true, false, not, cond, ltb, List, [], ◌∷◌, ◌++◌, length, drop, Some, None, refl, ap, sym, ◌∙◌, zero, suc, arith, slice_get, slice_index_or}
+use Rattle.std.proofs.Common.{◌≡◌, ℕ, ◌+◌, ◌<◌, ◌≤◌, Bool, true, false, not, cond, ltb, List, [], ◌∷◌, ◌++◌, length, drop, Some, None, refl}
+use Rattle.std.proofs.Common.{ap, sym, ◌∙◌, zero, suc, arith, slice_get, slice_index_or}
 use Rattle.std.proofs.lemmas.Bool.Decides.{nat_tests}
 use Rattle.std.proofs.lemmas.List.{append-nil, take_all, drop_all}
 use Rattle.std.specs.List.{position, position_or_len, remove, find}
@@ -13,7 +14,11 @@ removed-next x xs n m h = ap (remove (x ∷ xs)) h
 removed-first : {X : Type 0} (test : X → Bool) (xs : List X) → remove xs (position_or_len test xs) ≡ without_first test xs
 removed-first test [] = refl
 removed-first test (x ∷ xs) =
-    elim (test x) as (λ b. remove (x ∷ xs) (cond (not b) (1 + position_or_len test xs) 0) ≡ cond b xs (x ∷ without_first test xs)) [ true ↦ refl | false ↦ removed-next x xs (position_or_len test xs) (1 + position_or_len test xs) (omega arith) ∙ ap (λ ys. x ∷ ys) (removed-first test xs) ]
+    elim (test x) as (λ b. remove (x ∷ xs) (cond (not b) (1 + position_or_len test xs) 0) ≡ cond b xs (x ∷ without_first test xs)) [
+      | true ↦ refl
+      | false ↦ removed-next x xs (position_or_len test xs) (1 + position_or_len test xs) (omega arith)
+          ∙ ap (λ ys. x ∷ ys) (removed-first test xs)
+    ]
 
 place-is : (b : Bool) (n i : ℕ) → cond b (Some n) None ≡ Some i → n ≡ i
 place-is true n i h = cc
@@ -46,7 +51,8 @@ found-at test xs i h =
 pub removed-none : {X : Type 0} (test : X → Bool) (xs : List X) → position test xs ≡ None → xs ≡ without_first test xs
 removed-none test xs h =
     let p : length xs ≤ position_or_len test xs = past test xs h in
-    sym (ap (λ ys. ys ++ drop (suc (position_or_len test xs)) xs) (take_all (position_or_len test xs) xs p) ∙ ap (λ ys. xs ++ ys) (drop_all (suc (position_or_len test xs)) xs (omega (arith, p))) ∙ append-nil xs) ∙ removed-first test xs
+    sym (ap (λ ys. ys ++ drop (suc (position_or_len test xs)) xs) (take_all (position_or_len test xs) xs p)
+    ∙ ap (λ ys. xs ++ ys) (drop_all (suc (position_or_len test xs)) xs (omega (arith, p))) ∙ append-nil xs) ∙ removed-first test xs
 
 pub found-none : {X : Type 0} (test : X → Bool) (xs : List X) → position test xs ≡ None → find test xs ≡ None
 found-none test xs h = find_at test xs ∙ slice_get-past xs (position_or_len test xs) (past test xs h)

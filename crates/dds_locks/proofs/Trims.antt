@@ -1,5 +1,6 @@
 -- Laws of `trimmed`, and which transactions lie between two in their order.
-use Rattle.std.proofs.Common.{◌≡◌, ℕ, ◌-◌, ◌<◌, ◌≤◌, Bool, true, false, not, cond, ltb, Option, Some, None, IsTrue, refl, ap, sym, ◌∙◌, is_some, List, ◌∷◌, IfSome, slice_get, subst, arith}
+use Rattle.std.proofs.Common.{◌≡◌, ℕ, ◌-◌, ◌<◌, ◌≤◌, Bool, true, false, not, cond, ltb, Option, Some, None, IsTrue, refl, ap, sym, ◌∙◌}
+use Rattle.std.proofs.Common.{is_some, List, ◌∷◌, IfSome, slice_get, subst, arith}
 use Rattle.std.proofs.lemmas.Bool.Decides.{nat_tests}
 use Rattle.std.proofs.lemmas.Bool.{false≢true}
 use Rattle.std.specs.Ordering.{nat_cmp, ordering_then, eq_by_cmp, is_gt}
@@ -29,9 +30,12 @@ forgotten b true library below m q t h same = let k : is_below library below q �
 forgotten b false library below m q t h same = refl
 
 -- forgetting one that is trimmed anyway changes nothing
-pub trimmed-forget : (m : OutcomeMap) (library below : ℕ) (t : Txn) → is_below library below t ≡ true → trimmed (remove m t) library below ≡ trimmed m library below
+pub trimmed-forget : (m : OutcomeMap) (library below : ℕ) (t : Txn) → is_below library below t ≡ true →
+    trimmed (remove m t) library below ≡ trimmed m library below
 trimmed-forget m library below t h =
-    same_map txn_total txn_antisymmetric _ _ (λ q. get-trimmed (remove m t) library below q ∙ ap (λ v. cond (not (is_below library below q)) v None) (get-remove txn_total m t q) ∙ forgotten true (eq_by_cmp txn_cmp q t) library below m q t h (tied q t) ∙ sym (get-trimmed m library below q))
+    same_map txn_total txn_antisymmetric _ _ (λ q. get-trimmed (remove m t) library below q
+    ∙ ap (λ v. cond (not (is_below library below q)) v None) (get-remove txn_total m t q)
+    ∙ forgotten true (eq_by_cmp txn_cmp q t) library below m q t h (tied q t) ∙ sym (get-trimmed m library below q))
 
 kept : (b : Bool) (library below : ℕ) (m : OutcomeMap) (q : Txn) → (b ≡ true → get m q ≡ None) → cond (not b) (get m q) None ≡ get m q
 kept true library below m q h = sym (h refl)
@@ -64,7 +68,11 @@ less-is x y h = sym (nat_cmp_is x y Less h)
 from-below : (library below : ℕ) (t : Txn) → is_below library below t ≡ true → is_gt (ordering_then (nat_cmp library t.library) (nat_cmp 0 t.number)) ≡ false
 from-below library below t h =
     let same : library ≡ t.library = grind (arith, nat_tests, h) in
-    ap (λ o. is_gt (ordering_then o (nat_cmp 0 t.number))) (equal-is _ _ same) ∙ elim (ltb 0 t.number) as (λ b. ltb 0 t.number ≡ b → is_gt (nat_cmp 0 t.number) ≡ false) [ true ↦ λ e. ap is_gt (less-is 0 t.number (grind (arith, nat_tests, e))) | false ↦ λ e. ap is_gt (equal-is 0 t.number (grind (arith, nat_tests, e))) ] refl
+    ap (λ o. is_gt (ordering_then o (nat_cmp 0 t.number))) (equal-is _ _ same)
+    ∙ elim (ltb 0 t.number) as (λ b. ltb 0 t.number ≡ b → is_gt (nat_cmp 0 t.number) ≡ false) [
+      | true ↦ λ e. ap is_gt (less-is 0 t.number (grind (arith, nat_tests, e)))
+      | false ↦ λ e. ap is_gt (equal-is 0 t.number (grind (arith, nat_tests, e)))
+    ] refl
 
 before-below : (library below : ℕ) (t : Txn) → is_below library below t ≡ true → ordering_then (nat_cmp t.library library) (nat_cmp t.number below) ≡ Less
 before-below library below t h =
@@ -81,7 +89,8 @@ pub of-first : {X : Type 0} (P : X → Type 0) (r rest : List X) (x : X) → r �
 of-first P r rest x is h = subst (λ xs. IfSome (slice_get xs 0) P) is h
 
 -- no transaction of the library below the bound is in a tree's map where none is between the two
-pub none-seen : (m : BTreeMap Txn Bool) (lo hi : Txn) (library below : ℕ) → lo.library ≡ library → lo.number ≡ 0 → hi.library ≡ library → hi.number ≡ below → ((q : Txn) → IsInRange txn_cmp (Included lo) (Excluded hi) q → tree.get txn_cmp m q ≡ None) →
+pub none-seen : (m : BTreeMap Txn Bool) (lo hi : Txn) (library below : ℕ) → lo.library ≡ library → lo.number ≡ 0 → hi.library ≡ library → hi.number ≡ below →
+    ((q : Txn) → IsInRange txn_cmp (Included lo) (Excluded hi) q → tree.get txn_cmp m q ≡ None) →
     (t : Txn) → IsTrue (is_below library below t) → get (from_entries {R = txn_cmp} m.entries) t ≡ None
 none-seen m lo hi library below ll ln hl hn h t b =
     let from : is_gt (ordering_then (nat_cmp lo.library t.library) (nat_cmp lo.number t.number)) ≡ false = rw (ll, ln) (from-below library below t b) in
@@ -89,7 +98,8 @@ none-seen m lo hi library below ll ln hl hn h t b =
     get-seen txn_total m t ∙ h t (from, before)
 
 -- a brick has no transaction to drop
-pub none-of-brick : (m : BTreeMap Txn Bool) (library below : ℕ) → IsOfLibraries m → library < 64 → (t : Txn) → IsTrue (is_below library below t) → get (from_entries {R = txn_cmp} m.entries) t ≡ None
+pub none-of-brick : (m : BTreeMap Txn Bool) (library below : ℕ) → IsOfLibraries m → library < 64 → (t : Txn) → IsTrue (is_below library below t) →
+    get (from_entries {R = txn_cmp} m.entries) t ≡ None
 none-of-brick m library below h brick t b =
     let same : t.library ≡ library = grind (arith, nat_tests, b) in
     get-seen txn_total m t ∙ h t (rw same brick)
@@ -98,7 +108,8 @@ unbound : (b : Bool) (v : Option Bool) → v ≡ None → cond b None v ≡ None
 unbound true v h = refl
 unbound false v h = h
 
-pub libraries-forget : (m n : BTreeMap Txn Bool) (k : Txn) → IsOfLibraries m → ((q : Txn) → tree.get txn_cmp n q ≡ cond (is_at (txn_cmp k) q) None (tree.get txn_cmp m q)) → IsOfLibraries n
+pub libraries-forget : (m n : BTreeMap Txn Bool) (k : Txn) → IsOfLibraries m →
+    ((q : Txn) → tree.get txn_cmp n q ≡ cond (is_at (txn_cmp k) q) None (tree.get txn_cmp m q)) → IsOfLibraries n
 libraries-forget m n k h updated t brick = updated t ∙ unbound (is_at (txn_cmp k) t) (tree.get txn_cmp m t) (h t brick)
 
 bound : (b : Bool) (v : Bool) (rest : Option Bool) → b ≡ false → rest ≡ None → cond b (Some v) rest ≡ None
@@ -110,5 +121,6 @@ apart k t lib brick =
     let e : nat_cmp k.library t.library ≡ Greater = greater-is k.library t.library (omega (arith, lib, brick)) in
     rw e refl
 
-pub libraries-note : (m n : BTreeMap Txn Bool) (k : Txn) (v : Bool) → IsOfLibraries m → 64 ≤ k.library → ((q : Txn) → tree.get txn_cmp n q ≡ cond (is_at (txn_cmp k) q) (Some v) (tree.get txn_cmp m q)) → IsOfLibraries n
+pub libraries-note : (m n : BTreeMap Txn Bool) (k : Txn) (v : Bool) → IsOfLibraries m → 64 ≤ k.library →
+    ((q : Txn) → tree.get txn_cmp n q ≡ cond (is_at (txn_cmp k) q) (Some v) (tree.get txn_cmp m q)) → IsOfLibraries n
 libraries-note m n k v h lib updated t brick = updated t ∙ bound (is_at (txn_cmp k) t) v (tree.get txn_cmp m t) (apart k t lib brick) (h t brick)

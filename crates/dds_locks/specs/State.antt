@@ -17,4 +17,6 @@ pub record LockState : Type 0 where
 
 abbrev pub lock_code : Coded LockState
 lock_code =
-    code_by (List Pending × (List Lease × OutcomeMap)) (coded× (coded_list pending.the_row.coded) (coded× (coded_list lease.the_row.coded) (map.code txn.the_row.coded coded_bool))) (λ s. (s.pending, (s.leases, s.outcomes))) (λ p. record { pending = p.0; leases = p.1.0; outcomes = p.1.1 }) (λ _. refl)
+    code_by (List Pending × (List Lease × OutcomeMap))
+    (coded× (coded_list pending.the_row.coded) (coded× (coded_list lease.the_row.coded) (map.code txn.the_row.coded coded_bool)))
+    (λ s. (s.pending, (s.leases, s.outcomes))) (λ p. record { pending = p.0; leases = p.1.0; outcomes = p.1.1 }) (λ _. refl)

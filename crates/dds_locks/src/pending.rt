@@ -1,6 +1,7 @@
 //! The pending transactions of a brick, in the order of preparing. Each locks its key.
 
-ghost use Rattle.std.specs.Prelude.{◌≡◌, ℕ, ◌+◌, ◌-◌, ◌<◌, ◌++◌, [], ◌∷◌, OnOk, OnErr, IfSome, None, position, slice_get, option_copied, length, nat_lt, if◌then◌else◌};
+ghost use Rattle.std.specs.Prelude.{◌≡◌, ℕ, ◌+◌, ◌-◌, ◌<◌, ◌++◌, [], ◌∷◌, OnOk, OnErr, IfSome, None, position, slice_get, option_copied};
+ghost use Rattle.std.specs.Prelude.{length, nat_lt, if◌then◌else◌};
 ghost use Rattle.dds_base.specs.Number.{Txn, same_txn};
 ghost use Rattle.dds_base.specs.Op.{the_key};
 ghost use Rattle.dds_locks.specs.Pending.{holder, first_of, without, any_under, times, count_at, is_numbered};

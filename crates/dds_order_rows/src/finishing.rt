@@ -5,7 +5,9 @@ ghost use Rattle.dds_letters.specs.declared.letter.Letter.TheVariants as letter;
 ghost use Rattle.dds_states.specs.Turn.{both, letters_out, reply_out, to_each, unknown};
 ghost use Rattle.dds_brick_rows.specs.Refusal.{is_join};
 ghost use Rattle.dds_states.specs.declared.turn.Replied.TheVariants.{Order};
-ghost use Rattle.dds_order_rows.specs.OwnOrder.{answers, closed, ends, bound, serving, finishes, takes_part, parting, made_leaf, installs_from, installs, sources, copies_from, copies, going_on, leases_on, leased_all, leased_all_at, installs_on};
+ghost use Rattle.dds_order_rows.specs.OwnOrder.{answers, closed, ends, bound, serving, finishes, takes_part, parting, made_leaf};
+ghost use Rattle.dds_order_rows.specs.OwnOrder.{installs_from, installs, sources, copies_from, copies, going_on, leases_on, leased_all};
+ghost use Rattle.dds_order_rows.specs.OwnOrder.{leased_all_at, installs_on};
 
 use dds_base::leaf::Leaf;
 use dds_base::memory::Memory;
@@ -53,7 +55,8 @@ fn give_back(
     members: &[NodeNo],
     reply: OrderReply,
 ) -> Result<CoreTurn, Memory>
-    ensures { IfOk result (λ turn. turn ≡ both (letters_out (to_each (unknown members.now state.now.known) (letter.Release order.now.number order.now.name))) (reply_out (Order reply))) }
+    ensures { IfOk result (λ turn. turn ≡ both (letters_out (to_each (unknown members.now state.now.known) (letter.Release order.now.number order.now.name)))
+        (reply_out (Order reply))) }
 {
     let live = unknown(alloc, members, &state.known)?;
     let release = Letter::Release {

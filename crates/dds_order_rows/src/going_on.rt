@@ -1,7 +1,8 @@
 //! How an order of this brick goes on: from its leases to its copy, and from there to the leaf that it makes.
 
 ghost use Rattle.std.specs.Prelude.{◌≡◌, [], ◌∷◌, ◌++◌, IfOk, OnOk, Some, None, filter};
-ghost use Rattle.dds_order_rows.specs.OwnOrder.{parting, takes_part, made_leaf, installs_from, installs, sources, copies_from, copies, going_on, leases_on, leased_all, leased_all_at, installs_on};
+ghost use Rattle.dds_order_rows.specs.OwnOrder.{parting, takes_part, made_leaf, installs_from, installs, sources, copies_from, copies};
+ghost use Rattle.dds_order_rows.specs.OwnOrder.{going_on, leases_on, leased_all, leased_all_at, installs_on};
 
 use crate::finishing::{ends, finishes, is_join};
 use dds_base::leaf::Leaf;

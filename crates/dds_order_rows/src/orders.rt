@@ -3,7 +3,8 @@
 ghost use Rattle.std.specs.Prelude.{◌≡◌, [], ◌∷◌, ◌++◌, ◌≤◌, IfOk, OnOk, Some, None, take, length, option_copied};
 ghost use Rattle.std.specs.FinMap.{get};
 ghost use Rattle.dds_brick_rows.specs.Refusal.{lease_refusal};
-ghost use Rattle.dds_order_rows.specs.Orders.{lease_answered, lease_row, release_row, releasing, leasing, place_for, placed, in_order, pairs_after, copy_part, copy_ask_row, installed_over, install_row};
+ghost use Rattle.dds_order_rows.specs.Orders.{lease_answered, lease_row, release_row, releasing, leasing, place_for, placed, in_order};
+ghost use Rattle.dds_order_rows.specs.Orders.{pairs_after, copy_part, copy_ask_row, installed_over, install_row};
 
 use dds_base::items::Items;
 use dds_base::leaf::Leaf;

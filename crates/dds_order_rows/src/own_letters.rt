@@ -4,7 +4,10 @@ ghost use Rattle.std.specs.Prelude.{◌≡◌, ◌==◌, ◌&&◌, ◌+◌, [], 
 ghost use Rattle.std.specs.List.{list_all};
 ghost use Rattle.dds_base.specs.Name.{covers};
 ghost use Rattle.dds_base.specs.Place.{last_key};
-ghost use Rattle.dds_order_rows.specs.OwnOrder.{fixes, fixed, widened, granted_join, is_leasing, takes_grant, grants, is_at, with_order, at_order, with_grant, granted_row, met_of, lease_refused_row, starts_after, fits, copied_all, copied_on, is_source, copy_part_row, installed_in, is_installing, installed_row};
+ghost use Rattle.dds_order_rows.specs.OwnOrder.{fixes, fixed, widened, granted_join, is_leasing, takes_grant, grants, is_at, with_order};
+ghost use Rattle.dds_order_rows.specs.OwnOrder.{at_order, with_grant, granted_row, met_of, lease_refused_row, starts_after, fits};
+ghost use Rattle.dds_order_rows.specs.OwnOrder.{copied_all, copied_on, is_source, copy_part_row, installed_in, is_installing};
+ghost use Rattle.dds_order_rows.specs.OwnOrder.{installed_row};
 
 use crate::finishing::{ends, is_join};
 use crate::going_on::{installs, installs_on, leases_on};

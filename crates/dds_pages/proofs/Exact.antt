@@ -1,5 +1,7 @@
 -- Numbers and root pages are exact: what is read was spelled so.
-use Rattle.std.proofs.Common.{ℕ, zero, suc, ◌≡◌, ◌+◌, ◌-◌, ◌*◌, ◌/◌, ◌%◌, ◌^◌, ◌<◌, ◌≤◌, ◌==◌, ◌&&◌, if◌then◌else◌, Bool, true, false, not, List, [], ◌∷◌, ◌++◌, length, take, drop, slice_index, replicate, nat_eq, nat_lt, Option, Some, None, refl, sym, ◌∙◌, ap, subst, arith, append_assoc, length-append, length-drop}
+use Rattle.std.proofs.Common.{ℕ, zero, suc, ◌≡◌, ◌+◌, ◌-◌, ◌*◌, ◌/◌, ◌%◌, ◌^◌, ◌<◌, ◌≤◌, ◌==◌, ◌&&◌, if◌then◌else◌, Bool, true, false, not}
+use Rattle.std.proofs.Common.{List, [], ◌∷◌, ◌++◌, length, take, drop, slice_index, replicate, nat_eq, nat_lt, Option, Some, None, refl}
+use Rattle.std.proofs.Common.{sym, ◌∙◌, ap, subst, arith, append_assoc, length-append, length-drop}
 use Rattle.std.specs.Int.{byte_at, bytes_high_first}
 use Rattle.std.specs.List.{list_all, flat_map}
 use Rattle.std.proofs.Math.Nat.{mod-eq_of_lt, div-one, pow-succ', mul-add-mod_self_right, mul-add-div, one-le-pow}
@@ -38,7 +40,8 @@ bytes-below (suc n) q r =
     let f : q * 256 ^ suc n ≡ q * 256 * 256 ^ n = ap (λ (p : ℕ). q * p) (pow-succ' 256 n) ∙ shuffle-more q (256 ^ n) in
     let d = mul-add-div (above-zero n) (q * 256) r in
     let head : byte_at n (q * 256 ^ suc n + r) ≡ byte_at n r =
-    byte-is n (q * 256 ^ suc n + r) ∙ ap (λ (y : ℕ). (y + r) / 256 ^ n % 256) e ∙ ap (λ (y : ℕ). y % 256) d ∙ mul-add-mod_self_right q 256 (r / 256 ^ n) ∙ sym (byte-is n r) in
+    byte-is n (q * 256 ^ suc n + r) ∙ ap (λ (y : ℕ). (y + r) / 256 ^ n % 256) e ∙ ap (λ (y : ℕ). y % 256) d ∙ mul-add-mod_self_right q 256 (r / 256 ^ n)
+    ∙ sym (byte-is n r) in
     let tail : bytes_high_first n (q * 256 ^ suc n + r) ≡ bytes_high_first n r = ap (λ (y : ℕ). bytes_high_first n (y + r)) f ∙ bytes-below n (q * 256) r in
     λ i. head i ∷ tail i
 
@@ -61,21 +64,25 @@ pub bytes-drop : (bytes : List ℕ) (at : ℕ) → AreBytes bytes → AreBytes (
 bytes-drop bytes at b = λ k. subst (λ (x : ℕ). x < 256) (sym (get_or-drop at bytes k 0)) (b (at + k))
 
 -- a field of a page is spelled by its number
-pub field-spelled : (bytes : List ℕ) (at n x : ℕ) → at + n ≤ length bytes → AreBytes bytes → number_at bytes at n ≡ x → spelled n x ++ drop (at + n) bytes ≡ drop at bytes
+pub field-spelled : (bytes : List ℕ) (at n x : ℕ) → at + n ≤ length bytes → AreBytes bytes → number_at bytes at n ≡ x →
+    spelled n x ++ drop (at + n) bytes ≡ drop at bytes
 unfolding number_at spelled
 field-spelled bytes at n x h b e =
     let l = length-drop at bytes in
-    ap (λ (y : ℕ). bytes_high_first n y ++ drop (at + n) bytes) (sym e) ∙ ap (λ (f : List ℕ). f ++ drop (at + n) bytes) (bytes-of-number n (drop at bytes) (omega arith) (bytes-drop bytes at b))
+    ap (λ (y : ℕ). bytes_high_first n y ++ drop (at + n) bytes) (sym e)
+    ∙ ap (λ (f : List ℕ). f ++ drop (at + n) bytes) (bytes-of-number n (drop at bytes) (omega arith) (bytes-drop bytes at b))
     ∙ ap (λ (f : List ℕ). take n (drop at bytes) ++ f) (sym (drop-drop n at bytes)) ∙ take-append-drop n (drop at bytes)
 
 -- so are the numbers of 8 bytes from a place on
-pub numbers-spelled : (bytes : List ℕ) (at n : ℕ) → at + 8 * n ≤ length bytes → AreBytes bytes → flat_map (spelled 8) (numbers_at bytes at n) ++ drop (at + 8 * n) bytes ≡ drop at bytes
+pub numbers-spelled : (bytes : List ℕ) (at n : ℕ) → at + 8 * n ≤ length bytes → AreBytes bytes →
+    flat_map (spelled 8) (numbers_at bytes at n) ++ drop (at + 8 * n) bytes ≡ drop at bytes
 unfolding numbers_at
 numbers-spelled bytes at zero h b = ap (λ (i : ℕ). drop i bytes) (omega arith)
 numbers-spelled bytes at (suc n) h b =
     let e : at + 8 * suc n ≡ at + 8 + 8 * n = omega arith in
     append_assoc (spelled 8 (number_at bytes at 8)) (flat_map (spelled 8) (numbers_at bytes (at + 8) n)) (drop (at + 8 * suc n) bytes)
-    ∙ ap (λ (f : List ℕ). spelled 8 (number_at bytes at 8) ++ f) (ap (λ (i : ℕ). flat_map (spelled 8) (numbers_at bytes (at + 8) n) ++ drop i bytes) e ∙ numbers-spelled bytes (at + 8) n (omega arith) b)
+    ∙ ap (λ (f : List ℕ). spelled 8 (number_at bytes at 8) ++ f) (ap (λ (i : ℕ). flat_map (spelled 8) (numbers_at bytes (at + 8) n) ++ drop i bytes) e
+    ∙ numbers-spelled bytes (at + 8) n (omega arith) b)
     ∙ field-spelled bytes at 8 (number_at bytes at 8) (omega arith) b refl
 
 length-numbers : (bytes : List ℕ) (at n : ℕ) → length (numbers_at bytes at n) ≡ n
@@ -104,7 +111,8 @@ head-long version pairs firsts h =
     simp length-append (omega arith)
 
 -- a page is its first bytes, padded, where the others are zero
-pub padded-whole : (first bytes : List ℕ) (at : ℕ) → first ++ drop at bytes ≡ bytes → length bytes ≡ 4096 → length first ≡ at → zero_from bytes at ≡ true → padded first ≡ bytes
+pub padded-whole : (first bytes : List ℕ) (at : ℕ) → first ++ drop at bytes ≡ bytes → length bytes ≡ 4096 → length first ≡ at → zero_from bytes at ≡ true →
+    padded first ≡ bytes
 unfolding padded
 padded-whole first bytes at whole long l z =
     let d = length-drop at bytes in
@@ -127,7 +135,8 @@ true-from true h = refl
 true-from false h = cc
 
 -- an accepted root page is spelled by what it says
-pub root-spelled : (version : ℕ) (bytes : List ℕ) → length bytes ≡ 4096 → AreBytes bytes → root_fault version bytes ≡ None → root_bytes version (root_of bytes) ≡ bytes
+pub root-spelled : (version : ℕ) (bytes : List ℕ) → length bytes ≡ 4096 → AreBytes bytes → root_fault version bytes ≡ None →
+    root_bytes version (root_of bytes) ≡ bytes
 root-spelled version bytes long b h =
     let f0 = accepted (not (number_at bytes 0 1 == 1)) 0 _ h in
     let f1 = accepted (not (number_at bytes 1 1 == version)) 1 _ f0.1 in

@@ -1,5 +1,6 @@
 -- Laws of the fields of a page.
-use Rattle.std.proofs.Common.{ℕ, zero, suc, nat_eq, ◌&&◌, Bool, [], ◌∷◌, refl, ◌≡◌, ◌+◌, ◌-◌, ◌^◌, ◌<◌, ◌≤◌, List, ◌++◌, length, take, drop, slice_index_or, replicate, sym, ◌∙◌, ap, arith, length-append, length-drop}
+use Rattle.std.proofs.Common.{ℕ, zero, suc, nat_eq, ◌&&◌, Bool, [], ◌∷◌, refl, ◌≡◌, ◌+◌, ◌-◌, ◌^◌, ◌<◌, ◌≤◌, List, ◌++◌, length, take, drop}
+use Rattle.std.proofs.Common.{slice_index_or, replicate, sym, ◌∙◌, ap, arith, length-append, length-drop}
 use lib.Pointwise.{pointwise}
 use Rattle.std.specs.List.{list_all}
 use Rattle.std.proofs.lemmas.List.{get_or-drop, drop-replicate, take-append-drop, length-take, length-replicate, replicate-append-replicate}
@@ -15,7 +16,8 @@ unfolding number_at
 byte-number bytes at h = let e = get_or-drop at bytes 0 0 in grind (arith, common_steps)
 
 -- a page's end stays zero where bytes are written before it
-pub write-rest : (page bytes : List ℕ) (at k size : ℕ) → k ≡ length bytes → length page ≡ size → at + length bytes ≤ size → drop at page ≡ replicate (size - at) 0 →
+pub write-rest : (page bytes : List ℕ) (at k size : ℕ) → k ≡ length bytes → length page ≡ size → at + length bytes ≤ size →
+    drop at page ≡ replicate (size - at) 0 →
     drop (at + length bytes) (take at page ++ (bytes ++ drop k (drop at page))) ≡ replicate (size - (at + length bytes)) 0
 write-rest page bytes at k size same long within zeros =
     let l = length-take at page in
@@ -26,7 +28,8 @@ write-rest page bytes at k size same long within zeros =
     ∙ ap (drop k) zeros ∙ drop-replicate k (size - at) 0 ∙ ap (λ (i : ℕ). replicate i 0) e
 
 -- writing some bytes behind those that were written
-pub write-more : (page new bytes was : List ℕ) (at k end : ℕ) → IsWritten page at → take at page ≡ was → new ≡ bytes → k ≡ length bytes → end ≡ at + length bytes → length was + length bytes ≤ 4096 →
+pub write-more : (page new bytes was : List ℕ) (at k end : ℕ) → IsWritten page at → take at page ≡ was → new ≡ bytes → k ≡ length bytes →
+    end ≡ at + length bytes → length was + length bytes ≤ 4096 →
     IsWritten (take at page ++ (new ++ drop k (drop at page))) end
 write-more page new bytes was at k end w v same long e fits =
     let l = length-take at page in
@@ -64,8 +67,10 @@ number-behind xs ys at n = ap (big_number n) (drop-append-add xs ys at)
 pub cleared : (page new : List ℕ) (at k : ℕ) → IsWritten page at → k ≡ at → new ≡ replicate k 0 → IsWritten (new ++ drop at page) 0
 cleared page new at k w e is =
     let whole : at + (4096 - at) ≡ 4096 = omega (arith, w.within) in
-    let all : replicate at 0 ++ replicate (4096 - at) 0 ≡ replicate 4096 0 = replicate-append-replicate at (4096 - at) 0 ∙ ap (λ (i : ℕ). replicate i 0) whole in
-    let zeros : new ++ drop at page ≡ replicate 4096 0 = ap (λ (xs : List ℕ). xs ++ drop at page) (is ∙ ap (λ (i : ℕ). replicate i 0) e) ∙ ap (λ (xs : List ℕ). replicate at 0 ++ xs) w.zeros ∙ all in
+    let all : replicate at 0 ++ replicate (4096 - at) 0 ≡ replicate 4096 0 = replicate-append-replicate at (4096 - at) 0
+    ∙ ap (λ (i : ℕ). replicate i 0) whole in
+    let zeros : new ++ drop at page ≡ replicate 4096 0 = ap (λ (xs : List ℕ). xs ++ drop at page) (is ∙ ap (λ (i : ℕ). replicate i 0) e)
+    ∙ ap (λ (xs : List ℕ). replicate at 0 ++ xs) w.zeros ∙ all in
     record { long = ap length zeros ∙ length-replicate {A = ℕ} 4096 0; within = omega arith; zeros = zeros }
 
 -- as many bytes as there are zeros are equal to them where each is zero
@@ -75,7 +80,9 @@ zeros-as-long zero (x ∷ xs) h = absurd (omega (arith, h))
 zeros-as-long (suc n) [] h = absurd (omega (arith, h))
 zeros-as-long (suc n) (x ∷ xs) h = ap (λ (b : Bool). nat_eq x 0 && b) (zeros-as-long n xs (omega (arith, h)))
 
-pub zeros-equal : (bytes tail zeros : List ℕ) (at : ℕ) (same : Bool) → length tail + at ≡ 4096 → tail ≡ drop at bytes → zeros ≡ drop at (replicate 4096 0) → same ≡ pointwise nat_eq tail zeros → same ≡ zero_from bytes at
+pub zeros-equal : (bytes tail zeros : List ℕ) (at : ℕ) (same : Bool) → length tail + at ≡ 4096 → tail ≡ drop at bytes → zeros ≡ drop at (replicate 4096 0) →
+    same ≡ pointwise nat_eq tail zeros → same ≡ zero_from bytes at
 zeros-equal bytes tail zeros at same long t z e =
     let l : length (drop at bytes) ≡ 4096 - at = ap length (sym t) ∙ omega (arith, long) in
-    e ∙ ap (λ (xs : List ℕ). pointwise nat_eq xs zeros) t ∙ ap (pointwise nat_eq (drop at bytes)) (z ∙ drop-replicate at 4096 0) ∙ zeros-as-long (4096 - at) (drop at bytes) l
+    e ∙ ap (λ (xs : List ℕ). pointwise nat_eq xs zeros) t ∙ ap (pointwise nat_eq (drop at bytes)) (z ∙ drop-replicate at 4096 0)
+    ∙ zeros-as-long (4096 - at) (drop at bytes) l

@@ -1,5 +1,6 @@
 -- A page that was written is read again.
-use Rattle.std.proofs.Common.{ℕ, zero, suc, ◌≡◌, ◌+◌, ◌-◌, ◌*◌, ◌^◌, ◌<◌, ◌≤◌, ◌==◌, ◌||◌, Bool, true, false, List, [], ◌∷◌, ◌++◌, length, take, drop, replicate, nat_eq, nat_lt, Some, None, refl, sym, ap, ◌∙◌, arith, append_assoc, length-append}
+use Rattle.std.proofs.Common.{ℕ, zero, suc, ◌≡◌, ◌+◌, ◌-◌, ◌*◌, ◌^◌, ◌<◌, ◌≤◌, ◌==◌, ◌||◌, Bool, true, false, List, [], ◌∷◌, ◌++◌, length}
+use Rattle.std.proofs.Common.{take, drop, replicate, nat_eq, nat_lt, Some, None, refl, sym, ap, ◌∙◌, arith, append_assoc, length-append}
 use Rattle.std.specs.List.{list_all, flat_map}
 use Rattle.std.proofs.lemmas.List.{drop-drop}
 use Rattle.std.proofs.Math.Seq.{drop-append_seam}
@@ -55,7 +56,8 @@ record ReadsPair (page : List ℕ) (used : ℕ) (pair : PagePair) (rest : List �
 four-none : (a b c d : Bool) (i j k m : ℕ) → a ≡ false → b ≡ false → c ≡ false → d ≡ false → first_fault ((a, i) ∷ (b, j) ∷ (c, k) ∷ (d, m) ∷ []) ≡ None
 four-none a b c d i j k m p q r s = rw (p, q, r, s) refl
 
-pair-here : (page v rest : List ℕ) (key used : ℕ) → drop 16 page ≡ spelled 8 key ++ (spelled 2 (length v) ++ (v ++ rest)) → key < 2 ^ 64 → length v ≤ 4000 → used ≡ 26 + length v →
+pair-here : (page v rest : List ℕ) (key used : ℕ) → drop 16 page ≡ spelled 8 key ++ (spelled 2 (length v) ++ (v ++ rest)) → key < 2 ^ 64 → length v ≤ 4000 →
+    used ≡ 26 + length v →
     ReadsPair page used (record { key = key; held = Here v }) rest
 pair-here page v rest key used e k short u =
     let nk : number_at page 16 8 ≡ key = field-number page _ 16 8 key e (omega arith) in
@@ -74,7 +76,8 @@ pair-here page v rest key used e k short u =
       end = ap (λ (n : ℕ). drop n page) u ∙ behind page v rest 26 (length v) d26 refl;
     }
 
-pair-chain : (page rest : List ℕ) (key len first used : ℕ) → drop 16 page ≡ spelled 8 key ++ (spelled 2 len ++ (spelled 8 first ++ rest)) → key < 2 ^ 64 → 4000 < len → len ≤ 60000 → first < 2 ^ 64 - 1 → used ≡ 34 →
+pair-chain : (page rest : List ℕ) (key len first used : ℕ) → drop 16 page ≡ spelled 8 key ++ (spelled 2 len ++ (spelled 8 first ++ rest)) → key < 2 ^ 64 →
+    4000 < len → len ≤ 60000 → first < 2 ^ 64 - 1 → used ≡ 34 →
     ReadsPair page used (record { key = key; held = Chain len first }) rest
 pair-chain page rest key len first used e k some few f u =
     let nk : number_at page 16 8 ≡ key = field-number page _ 16 8 key e (omega arith) in
@@ -93,14 +96,16 @@ pair-chain page rest key len first used e k some few f u =
       end = ap (λ (n : ℕ). drop n page) u ∙ d34;
     }
 
-head-none : (page : List ℕ) (used : ℕ) → number_at page 0 1 ≡ 2 → number_at page 1 1 ≡ 2 → number_at page 12 2 ≡ used → 16 ≤ used → used ≤ 4096 → number_at page 14 2 ≡ 0 → head_fault form_2 page ≡ None
+head-none : (page : List ℕ) (used : ℕ) → number_at page 0 1 ≡ 2 → number_at page 1 1 ≡ 2 → number_at page 12 2 ≡ used → 16 ≤ used → used ≤ 4096 →
+    number_at page 14 2 ≡ 0 → head_fault form_2 page ≡ None
 head-none page used a b c low high d =
     let l : nat_lt used 16 ≡ false = not-less used 16 low in
     let h : nat_lt 4096 used ≡ false = not-less 4096 used high in
     rw (a, b, c, l, h, d) refl
 
 -- a page of one pair is accepted, and says the pair
-one-pair : (page : List ℕ) (used next k : ℕ) (pair : PagePair) → number_at page 0 1 ≡ 2 → number_at page 1 1 ≡ 2 → number_at page 2 2 ≡ 1 → number_at page 4 8 ≡ next → number_at page 12 2 ≡ used → number_at page 14 2 ≡ 0 →
+one-pair : (page : List ℕ) (used next k : ℕ) (pair : PagePair) → number_at page 0 1 ≡ 2 → number_at page 1 1 ≡ 2 → number_at page 2 2 ≡ 1 →
+    number_at page 4 8 ≡ next → number_at page 12 2 ≡ used → number_at page 14 2 ≡ 0 →
     16 ≤ used → used ≤ 4096 → ReadsPair page used pair (replicate k 0) → bucket_in page ≡ Some (record { pairs = pair ∷ []; next = next })
 unfolding bucket_in
 one-pair page used next k pair a b n e c d low high r =
@@ -127,7 +132,8 @@ record Heads (page : List ℕ) (next count used : ℕ) (pairs : List ℕ) : Type
   pub zero_is : number_at page 14 2 ≡ 0
   pub rest : drop 16 page ≡ pairs
 
-heads-read : (page pairs : List ℕ) (next count used : ℕ) → page ≡ spelled 1 2 ++ (spelled 1 2 ++ (spelled 2 count ++ (spelled 8 next ++ (spelled 2 used ++ (spelled 2 0 ++ pairs))))) →
+heads-read : (page pairs : List ℕ) (next count used : ℕ) →
+    page ≡ spelled 1 2 ++ (spelled 1 2 ++ (spelled 2 count ++ (spelled 8 next ++ (spelled 2 used ++ (spelled 2 0 ++ pairs))))) →
     next < 2 ^ 64 → count < 2 ^ 16 → used < 2 ^ 16 → Heads page next count used pairs
 heads-read page pairs next count used e n c u =
     let d1 = field-behind page _ 0 1 2 e in
@@ -156,7 +162,8 @@ held-width (Chain len first) h = let l = length-spelled 2 len in let m = length-
 regroup : (a b zeros : List ℕ) → ((a ++ b) ++ []) ++ zeros ≡ a ++ (b ++ zeros)
 regroup a b zeros = simp append_assoc
 
-reads-held : (page zeros : List ℕ) (key used : ℕ) (held : Held) → drop 16 page ≡ spelled 8 key ++ (held_bytes held ++ zeros) → key < 2 ^ 64 → IsHeld held → used ≡ 16 + (8 + length (held_bytes held)) →
+reads-held : (page zeros : List ℕ) (key used : ℕ) (held : Held) → drop 16 page ≡ spelled 8 key ++ (held_bytes held ++ zeros) → key < 2 ^ 64 → IsHeld held →
+    used ≡ 16 + (8 + length (held_bytes held)) →
     ReadsPair page used (record { key = key; held = held }) zeros
 reads-held page zeros key used (Here v) e k h u =
     let l = length-spelled 2 (length v) in
@@ -166,11 +173,13 @@ reads-held page zeros key used (Chain len first) e k h u =
     let l = length-spelled 2 len in
     let m = length-spelled 8 first in
     let w : length (spelled 2 len ++ spelled 8 first) ≡ 10 = simp length-append (omega arith) in
-    pair-chain page zeros key len first used (e ∙ ap (λ (r : List ℕ). spelled 8 key ++ r) (append_assoc (spelled 2 len) (spelled 8 first) zeros)) k h.0 h.1 h.2 (omega (arith, u, w))
+    pair-chain page zeros key len first used (e ∙ ap (λ (r : List ℕ). spelled 8 key ++ r) (append_assoc (spelled 2 len) (spelled 8 first) zeros)) k h.0 h.1
+    h.2 (omega (arith, u, w))
 
 -- a page of one pair that was written says the pair
 pub bucket-back : (key next : ℕ) (held : Held) → key < 2 ^ 64 → next < 2 ^ 64 → IsHeld held →
-    bucket_in (bucket_bytes (record { pairs = record { key = key; held = held } ∷ []; next = next })) ≡ Some (record { pairs = record { key = key; held = held } ∷ []; next = next })
+    bucket_in (bucket_bytes (record { pairs = record { key = key; held = held } ∷ []; next = next }))
+    ≡ Some (record { pairs = record { key = key; held = held } ∷ []; next = next })
 unfolding padded
 bucket-back key next held k n h =
     let bytes : List ℕ = (spelled 8 key ++ held_bytes held) ++ [] in
@@ -179,8 +188,10 @@ bucket-back key next held k n h =
     let zeros : ℕ = 4096 - length first in
     let w : length ((spelled 8 key ++ held_bytes held) ++ []) ≡ 8 + length (held_bytes held) = width-of key (held_bytes held) in
     let most = held-width held h in
-    let hs : Heads (first ++ replicate zeros 0) next 1 used (bytes ++ replicate zeros 0) = heads-read _ _ next 1 used (heads bytes (replicate zeros 0) next 1 used) n (omega arith) (omega (arith, w, most)) in
-    let pair = reads-held _ (replicate zeros 0) key used held (hs.rest ∙ regroup (spelled 8 key) (held_bytes held) (replicate zeros 0)) k h (ap (λ (m : ℕ). 16 + m) w) in
+    let hs : Heads (first ++ replicate zeros 0) next 1 used (bytes ++ replicate zeros 0) =
+    heads-read _ _ next 1 used (heads bytes (replicate zeros 0) next 1 used) n (omega arith) (omega (arith, w, most)) in
+    let pair = reads-held _ (replicate zeros 0) key used held (hs.rest ∙ regroup (spelled 8 key) (held_bytes held) (replicate zeros 0)) k h
+    (ap (λ (m : ℕ). 16 + m) w) in
     one-pair _ used next zeros _ hs.kind hs.version hs.count_is hs.next_is hs.used_is hs.zero_is (omega arith) (omega (arith, w, most)) pair
 
 -- an overflow page that was written says its bytes
@@ -192,7 +203,9 @@ over-heads bytes zeros count next = simp append_assoc
 some-few : (n : ℕ) → 0 < n → n ≤ 4080 → (n == 0 || nat_lt 4080 n) ≡ false
 some-few n h k = grind (arith, nat_tests)
 
-over-read : (page bytes : List ℕ) (next k : ℕ) → page ≡ spelled 1 3 ++ (spelled 1 2 ++ (spelled 2 (length bytes) ++ (spelled 8 next ++ (spelled 4 0 ++ (bytes ++ replicate k 0))))) → next < 2 ^ 64 → 0 < length bytes → length bytes ≤ 4080 →
+over-read : (page bytes : List ℕ) (next k : ℕ) →
+    page ≡ spelled 1 3 ++ (spelled 1 2 ++ (spelled 2 (length bytes) ++ (spelled 8 next ++ (spelled 4 0 ++ (bytes ++ replicate k 0))))) → next < 2 ^ 64 →
+    0 < length bytes → length bytes ≤ 4080 →
     overflow_in page ≡ Some (record { bytes = bytes; next = next })
 unfolding overflow_in
 over-read page bytes next k e n some few =
@@ -212,7 +225,8 @@ over-read page bytes next k e n some few =
     let says : overflow_of page ≡ record { bytes = bytes; next = next } = rw (f2, d16, taken bytes (replicate k 0), f4) refl in
     rw fault (ap (λ (x : Overflow). Some x) says)
 
-pub overflow-back : (bytes : List ℕ) (next : ℕ) → next < 2 ^ 64 → 0 < length bytes → length bytes ≤ 4080 → overflow_in (overflow_bytes (record { bytes = bytes; next = next })) ≡ Some (record { bytes = bytes; next = next })
+pub overflow-back : (bytes : List ℕ) (next : ℕ) → next < 2 ^ 64 → 0 < length bytes → length bytes ≤ 4080 →
+    overflow_in (overflow_bytes (record { bytes = bytes; next = next })) ≡ Some (record { bytes = bytes; next = next })
 unfolding padded
 overflow-back bytes next n some few = over-read _ bytes next _ (over-heads bytes (replicate _ 0) (length bytes) next) n some few
 
@@ -221,7 +235,8 @@ abbrev pub AreSmall : List ℕ → Type 0
 AreSmall [] = Unit {0}
 AreSmall (x ∷ xs) = (x < 2 ^ 64) × AreSmall xs
 
-numbers-read : (page rest : List ℕ) (at : ℕ) (xs : List ℕ) → drop at page ≡ flat_map (spelled 8) xs ++ rest → AreSmall xs → (numbers_at page at (length xs) ≡ xs) × (drop (at + 8 * length xs) page ≡ rest)
+numbers-read : (page rest : List ℕ) (at : ℕ) (xs : List ℕ) → drop at page ≡ flat_map (spelled 8) xs ++ rest → AreSmall xs →
+    (numbers_at page at (length xs) ≡ xs) × (drop (at + 8 * length xs) page ≡ rest)
 unfolding numbers_at
 numbers-read page rest at [] e s = (refl, ap (λ (n : ℕ). drop n page) (omega arith) ∙ e)
 numbers-read page rest at (x ∷ xs) e s =
@@ -237,7 +252,9 @@ root-heads : (numbers zeros : List ℕ) (pairs : ℕ) →
     spelled 1 1 ++ (spelled 1 2 ++ (spelled 2 0 ++ (spelled 4 pairs ++ (spelled 8 0 ++ (numbers ++ zeros)))))
 root-heads numbers zeros pairs = simp append_assoc
 
-root-read : (page firsts : List ℕ) (pairs k : ℕ) → page ≡ spelled 1 1 ++ (spelled 1 2 ++ (spelled 2 0 ++ (spelled 4 pairs ++ (spelled 8 0 ++ (flat_map (spelled 8) firsts ++ replicate k 0))))) → pairs ≤ 16384 → length firsts ≡ 256 → AreSmall firsts →
+root-read : (page firsts : List ℕ) (pairs k : ℕ) →
+    page ≡ spelled 1 1 ++ (spelled 1 2 ++ (spelled 2 0 ++ (spelled 4 pairs ++ (spelled 8 0 ++ (flat_map (spelled 8) firsts ++ replicate k 0))))) →
+    pairs ≤ 16384 → length firsts ≡ 256 → AreSmall firsts →
     root_in page ≡ Some (record { pairs = pairs; firsts = firsts })
 unfolding root_in
 root-read page firsts pairs k e few l s =
@@ -260,6 +277,7 @@ root-read page firsts pairs k e few l s =
     let says : root_of page ≡ record { pairs = pairs; firsts = firsts } = rw (f4, numbers) refl in
     rw fault (ap (λ (x : Root). Some x) says)
 
-pub root-back : (firsts : List ℕ) (pairs : ℕ) → pairs ≤ 16384 → length firsts ≡ 256 → AreSmall firsts → root_in (root_bytes 2 (record { pairs = pairs; firsts = firsts })) ≡ Some (record { pairs = pairs; firsts = firsts })
+pub root-back : (firsts : List ℕ) (pairs : ℕ) → pairs ≤ 16384 → length firsts ≡ 256 → AreSmall firsts →
+    root_in (root_bytes 2 (record { pairs = pairs; firsts = firsts })) ≡ Some (record { pairs = pairs; firsts = firsts })
 unfolding padded
 root-back firsts pairs few l s = root-read _ firsts pairs _ (root-heads (flat_map (spelled 8) firsts) (replicate _ 0) pairs) few l s

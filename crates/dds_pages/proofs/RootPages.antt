@@ -1,5 +1,6 @@
 -- Laws of root pages.
-use Rattle.std.proofs.Common.{ℕ, zero, suc, ◌≡◌, ◌+◌, ◌*◌, ◌<◌, ◌≤◌, List, [], ◌∷◌, ◌++◌, length, take, get_or, set, refl, sym, ◌∙◌, ap, arith, append_assoc, length-append, add-one}
+use Rattle.std.proofs.Common.{ℕ, zero, suc, ◌≡◌, ◌+◌, ◌*◌, ◌<◌, ◌≤◌, List, [], ◌∷◌, ◌++◌, length, take, get_or, set, refl, sym, ◌∙◌, ap}
+use Rattle.std.proofs.Common.{arith, append_assoc, length-append, add-one}
 use Rattle.std.specs.List.{flat_map}
 use Rattle.std.proofs.lemmas.List.{take_more, take_more_set}
 use Rattle.std.proofs.lemmas.Grind.{flat_map-append}
@@ -14,7 +15,8 @@ unfolding numbers_at
 numbers-push bytes at zero = ap (λ (i : ℕ). number_at bytes i 8 ∷ []) (omega arith)
 numbers-push bytes at (suc n) =
     let e : at + 8 + 8 * n ≡ at + 8 * suc n = omega arith in
-    rw add-one (ap (λ (r : List ℕ). number_at bytes at 8 ∷ r) (rw add-one at (numbers-push bytes (at + 8) n) ∙ ap (λ (i : ℕ). numbers_at bytes (at + 8) n ++ number_at bytes i 8 ∷ []) e))
+    rw add-one (ap (λ (r : List ℕ). number_at bytes at 8 ∷ r) (rw add-one at (numbers-push bytes (at + 8) n)
+    ∙ ap (λ (i : ℕ). numbers_at bytes (at + 8) n ++ number_at bytes i 8 ∷ []) e))
 
 -- storing the next number
 pub numbers-set : (bytes firsts : List ℕ) (at i x : ℕ) → take i firsts ≡ numbers_at bytes at i → i < length firsts → x ≡ number_at bytes (at + 8 * i) 8 →
@@ -32,8 +34,11 @@ pub put-next : (start was : List ℕ) (xs : List ℕ) (i x : ℕ) → was ≡ st
     was ++ spelled 8 x ≡ start ++ flat_map (spelled 8) (take (i + 1) xs)
 put-next start was xs i x h within e =
     ap (λ (r : List ℕ). r ++ spelled 8 x) h ∙ append_assoc start (flat_map (spelled 8) (take i xs)) (spelled 8 x)
-    ∙ ap (λ (r : List ℕ). start ++ r) (sym (ap (flat_map (spelled 8)) (take_more xs i 0 within) ∙ flat_map-append (spelled 8) (take i xs) (get_or xs i 0 ∷ []) ∙ ap (λ (y : ℕ). flat_map (spelled 8) (take i xs) ++ (spelled 8 y ++ [])) (sym e) ∙ ap (λ (r : List ℕ). flat_map (spelled 8) (take i xs) ++ r) (append-nil (spelled 8 x))))
+    ∙ ap (λ (r : List ℕ). start ++ r) (sym (ap (flat_map (spelled 8)) (take_more xs i 0 within) ∙ flat_map-append (spelled 8) (take i xs) (get_or xs i 0 ∷ [])
+    ∙ ap (λ (y : ℕ). flat_map (spelled 8) (take i xs) ++ (spelled 8 y ++ [])) (sym e)
+    ∙ ap (λ (r : List ℕ). flat_map (spelled 8) (take i xs) ++ r) (append-nil (spelled 8 x))))
 
 -- there is room for the next number
-pub put-room : (start was : List ℕ) (xs : List ℕ) (i : ℕ) → was ≡ start ++ flat_map (spelled 8) (take i xs) → length (take i xs) ≤ i → length was ≤ length start + 8 * i
+pub put-room : (start was : List ℕ) (xs : List ℕ) (i : ℕ) → was ≡ start ++ flat_map (spelled 8) (take i xs) → length (take i xs) ≤ i →
+    length was ≤ length start + 8 * i
 put-room start was xs i h short = let l = length-all-spelled (take i xs) in rw h (simp length-append (omega arith))

@@ -1,5 +1,6 @@
 -- A page of a bucket's pairs.
-use Rattle.std.specs.Prelude.{ℕ, suc, zero, ◌+◌, ◌-◌, ◌^◌, ◌<◌, ◌≤◌, ◌==◌, ◌≡◌, ◌&&◌, ◌||◌, Bool, true, false, not, List, [], ◌∷◌, ◌++◌, length, drop, take, flat_map, nat_lt, if◌then◌else◌, Option, Some, None, Result, Ok, Err}
+use Rattle.std.specs.Prelude.{ℕ, suc, zero, ◌+◌, ◌-◌, ◌^◌, ◌<◌, ◌≤◌, ◌==◌, ◌≡◌, ◌&&◌, ◌||◌, Bool, true, false, not, List, [], ◌∷◌, ◌++◌}
+use Rattle.std.specs.Prelude.{length, drop, take, flat_map, nat_lt, if◌then◌else◌, Option, Some, None, Result, Ok, Err}
 use Rattle.dds_pages.specs.declared.fault.PageFault.{PageFault}
 use Rattle.dds_pages.specs.declared.fault.PageFault.TheVariants.{NotAPage, Memory}
 use Rattle.dds_pages.specs.declared.bucket.Held.{Held}
@@ -66,7 +67,8 @@ pairs_at form bytes at (suc n) = pair_at form bytes at ∷ pairs_at form bytes (
 abbrev pub head_fault : Form → List ℕ → Option ℕ
 head_fault form bytes =
     first_fault
-    ((not (number_at bytes 0 1 == 2), 0) ∷ (not (number_at bytes 1 1 == form.version), 1) ∷ (nat_lt (number_at bytes 12 2) 16 || nat_lt 4096 (number_at bytes 12 2), 12)
+    ((not (number_at bytes 0 1 == 2), 0) ∷ (not (number_at bytes 1 1 == form.version), 1)
+    ∷ (nat_lt (number_at bytes 12 2) 16 || nat_lt 4096 (number_at bytes 12 2), 12)
     ∷ (not (number_at bytes 14 2 == 0), 14) ∷ [])
 
 -- the first field of a bucket page that isn't accepted
@@ -123,7 +125,8 @@ IsHeldRead form bytes at (Err Memory) = Unit {0}
 -- what reading the pair at a place answers
 abbrev pub IsPairRead : Form → List ℕ → ℕ → ℕ → Result PagePair PageFault → Type 0
 IsPairRead form bytes used at (Ok pair) =
-    (pair_fault form bytes used at ≡ None) × (pair ≡ pair_at form bytes at) × (at + pair_width pair ≤ used) × (pair_width pair ≡ extent form (number_at bytes (at + 8) 2)) × IsHeld pair.held
+    (pair_fault form bytes used at ≡ None) × (pair ≡ pair_at form bytes at) × (at + pair_width pair ≤ used)
+    × (pair_width pair ≡ extent form (number_at bytes (at + 8) 2)) × IsHeld pair.held
 IsPairRead form bytes used at (Err (NotAPage fault)) = pair_fault form bytes used at ≡ Some fault
 IsPairRead form bytes used at (Err Memory) = Unit {0}
 

@@ -18,7 +18,8 @@ numbers_at bytes at (suc n) = number_at bytes at 8 ∷ numbers_at bytes (at + 8)
 abbrev pub root_fault : ℕ → List ℕ → Option ℕ
 root_fault version bytes =
     first_fault
-    ((not (number_at bytes 0 1 == 1), 0) ∷ (not (number_at bytes 1 1 == version), 1) ∷ (not (number_at bytes 2 2 == 0), 2) ∷ (nat_lt 16384 (number_at bytes 4 4), 4)
+    ((not (number_at bytes 0 1 == 1), 0) ∷ (not (number_at bytes 1 1 == version), 1) ∷ (not (number_at bytes 2 2 == 0), 2)
+    ∷ (nat_lt 16384 (number_at bytes 4 4), 4)
     ∷ (not (number_at bytes 8 8 == 0), 8) ∷ (not (zero_from bytes 2064), 2064) ∷ [])
 
 -- what an accepted root page says

@@ -35,7 +35,8 @@ opened-stands s places.Leaves f e o h = stands-at s places.Leaves f e h
 opened-stands s places.Old f e o h = stands-at s places.Old f e h
 opened-stands s places.Body f e o h = stands-at s places.Body f e h
 
-line-apart : (s : Reader) (form : Option Form) (ws : List (List ℕ)) (kind : ScriptKind) → AreRight s.ranges form ws → IsOpened s.place s → IsFaultOf s form ws kind → ⊥
+line-apart : (s : Reader) (form : Option Form) (ws : List (List ℕ)) (kind : ScriptKind) → AreRight s.ranges form ws → IsOpened s.place s →
+    IsFaultOf s form ws kind → ⊥
 line-apart s None ws kind a o f = a
 line-apart s (Some g) ws kinds.NoEnd a o f = f
 line-apart s (Some g) ws kinds.Form a o f = f
@@ -44,12 +45,18 @@ line-apart s (Some g) ws kinds.Number a o f = f.1 a.1
 line-apart s (Some g) ws kinds.Value a o f = f.2 a.2
 line-apart s (Some g) ws kinds.Cover a o f = opened-covered s.place s o (subst (λ (b : Bool). IsCoverFaultBy b s g ws) a.0 f.3)
 
-cluster-apart : (s : Reader) (r : Ranges) (ws : List (List ℕ)) (kind : ScriptKind) → ws ≡ codes "cluster" ∷ decimal r.bricks ∷ decimal r.libraries ∷ decimal r.callers ∷ [] → IsRanges r → s.place ≡ places.BeforeCluster → IsFaultAt s Cluster ws kind → ⊥
+cluster-apart : (s : Reader) (r : Ranges) (ws : List (List ℕ)) (kind : ScriptKind) → ws ≡ codes "cluster" ∷ decimal r.bricks ∷ decimal r.libraries
+    ∷ decimal r.callers ∷ [] → IsRanges r → s.place ≡ places.BeforeCluster → IsFaultAt s Cluster ws kind → ⊥
 cluster-apart s r ws kinds.NoEnd w is e f = f
 cluster-apart s r ws kinds.Form w is e f = f
 cluster-apart s r ws kinds.Place w is e f = true-false _ (ap (λ (p : Place). may_stand p Cluster) e) f
 cluster-apart s r ws kinds.Number w is e f =
-    let n : NumbersAre s.ranges Cluster ws = rw w ((r.bricks, record { spelled = refl; least = is.some_brick; most = is.bricks }), (r.libraries, record { spelled = refl; least = is.some_library; most = is.libraries }), (r.callers, record { spelled = refl; least = is.some_caller; most = is.callers })) in
+    let n : NumbersAre s.ranges Cluster ws =
+    rw w (
+      (r.bricks, record { spelled = refl; least = is.some_brick; most = is.bricks }),
+      (r.libraries, record { spelled = refl; least = is.some_library; most = is.libraries }),
+      (r.callers, record { spelled = refl; least = is.some_caller; most = is.callers }),
+    ) in
     f.1 n
 cluster-apart s r ws kinds.Value w is e f = f.2 tt
 cluster-apart s r ws kinds.Cover w is e f = f.3
@@ -60,7 +67,8 @@ group-list bricks word list w g =
     let h = g.group in
     record { spelled = w; some = grind (arith, nat_tests, h); most = grind (arith, nat_tests, h); below = g.below }
 
-leaf-apart : (s : Reader) (name : Name) (list : List ℕ) (ws : List (List ℕ)) (kind : ScriptKind) → ws ≡ codes "leaf" ∷ name_text name ∷ list_text list ∷ [] → s.ranges.bricks ≤ 64 → IsName name → IsGroup s.ranges.bricks list → meets s.leaves name ≡ false → s.place ≡ places.Leaves → IsFaultAt s Leaf ws kind → ⊥
+leaf-apart : (s : Reader) (name : Name) (list : List ℕ) (ws : List (List ℕ)) (kind : ScriptKind) → ws ≡ codes "leaf" ∷ name_text name ∷ list_text list ∷ [] →
+    s.ranges.bricks ≤ 64 → IsName name → IsGroup s.ranges.bricks list → meets s.leaves name ≡ false → s.place ≡ places.Leaves → IsFaultAt s Leaf ws kind → ⊥
 leaf-apart s name list ws kinds.NoEnd w b n g m e f = f
 leaf-apart s name list ws kinds.Form w b n g m e f = f
 leaf-apart s name list ws kinds.Place w b n g m e f = true-false _ (ap (λ (p : Place). may_stand p Leaf) e) f
@@ -75,16 +83,23 @@ leaf-apart s name list ws kinds.Cover w b n g m e f =
       | inr met ↦ no-met s.leaves (name_text name) name (refl, n) m met
     ]
 
-old-apart : (s : Reader) (library : ℕ) (name : Name) (list : List ℕ) (ws : List (List ℕ)) (kind : ScriptKind) → ws ≡ codes "old" ∷ decimal library ∷ name_text name ∷ list_text list ∷ [] → s.ranges.bricks ≤ 64 → library < s.ranges.libraries → IsName name → IsGroup s.ranges.bricks list → takes_old s.place ≡ true → IsOpened s.place s → IsFaultAt s Old ws kind → ⊥
+old-apart : (s : Reader) (library : ℕ) (name : Name) (list : List ℕ) (ws : List (List ℕ)) (kind : ScriptKind) →
+    ws ≡ codes "old" ∷ decimal library ∷ name_text name ∷ list_text list ∷ [] → s.ranges.bricks ≤ 64 → library < s.ranges.libraries → IsName name →
+    IsGroup s.ranges.bricks list → takes_old s.place ≡ true → IsOpened s.place s → IsFaultAt s Old ws kind → ⊥
 old-apart s library name list ws kinds.NoEnd w b l n g e o f = f
 old-apart s library name list ws kinds.Form w b l n g e o f = f
 old-apart s library name list ws kinds.Place w b l n g e o f = true-false _ (old-stands s.place e) f
 old-apart s library name list ws kinds.Number w b l n g e o f =
-    let h : NumbersAre s.ranges Old ws = rw w ((library, record { spelled = refl; below = l }), (name, (refl, n)), (list, group-list s.ranges.bricks (list_text list) list refl g)) in
+    let h : NumbersAre s.ranges Old ws = rw w (
+      (library, record { spelled = refl; below = l }),
+      (name, (refl, n)),
+      (list, group-list s.ranges.bricks (list_text list) list refl g),
+    ) in
     f.1 h
 old-apart s library name list ws kinds.Value w b l n g e o f = f.2 tt
 old-apart s library name list ws kinds.Cover w b l n g e o f =
-    let c : IsOpeningFault s Old (codes "old" ∷ decimal library ∷ name_text name ∷ list_text list ∷ []) = subst (λ (x : List (List ℕ)). IsOpeningFault s Old x) w f.3 in
+    let c : IsOpeningFault s Old (codes "old" ∷ decimal library ∷ name_text name ∷ list_text list ∷ []) =
+    subst (λ (x : List (List ℕ)). IsOpeningFault s Old x) w f.3 in
     elim c [
       | inl bare ↦ opened-covered s.place s o bare
       | inr again ↦ no-repeat s.ranges.bricks (list_text list) list b (group-list s.ranges.bricks (list_text list) list refl g) g again
@@ -94,7 +109,8 @@ pub not-empty : (ws : List (List ℕ)) → 0 < length ws → ws ≡ [] → ⊥
 not-empty [] h e = omega (arith, h)
 not-empty (w ∷ ws) h e = cc e
 
-pub words-apart : (s : Reader) (ws : List (List ℕ)) (next : Reader) (kind : ScriptKind) → IsRanges s.ranges → 0 < length ws → MovesBy s ws next → IsFaultOf s (form_of ws) ws kind → ⊥
+pub words-apart : (s : Reader) (ws : List (List ℕ)) (next : Reader) (kind : ScriptKind) → IsRanges s.ranges → 0 < length ws → MovesBy s ws next →
+    IsFaultOf s (form_of ws) ws kind → ⊥
 words-apart _ _ _ kind is some (line s ws l opened spelled) f =
     line-apart s (form_of ws) ws kind (spelled-right s.ranges ws l is (not-empty ws some) spelled) opened f
 words-apart _ _ _ kind is some (cluster s ws r place spelled ranges) f =

@@ -1,5 +1,6 @@
 -- Leaves that have no key in common cover each key exactly where their shares make up the whole.
-use Rattle.std.proofs.Common.{◌≡◌, ◌≢◌, ◌==◌, ℕ, ◌+◌, ◌-◌, ◌*◌, ◌%◌, ◌^◌, ◌<◌, ◌≤◌, ◌||◌, Bool, true, false, List, [], ◌∷◌, length, get_or, drop, drop-cons, add-one, refl, ap, sym, ◌∙◌, arith, zero, suc, lit<, nat_eq, IsTrue, if◌then◌else◌}
+use Rattle.std.proofs.Common.{◌≡◌, ◌≢◌, ◌==◌, ℕ, ◌+◌, ◌-◌, ◌*◌, ◌%◌, ◌^◌, ◌<◌, ◌≤◌, ◌||◌, Bool, true, false, List, [], ◌∷◌, length, get_or}
+use Rattle.std.proofs.Common.{drop, drop-cons, add-one, refl, ap, sym, ◌∙◌, arith, zero, suc, lit<, nat_eq, IsTrue, if◌then◌else◌}
 use Rattle.std.proofs.lemmas.Bool.Decides.{nat_tests}
 use Rattle.std.proofs.lemmas.Grind.{common_steps}
 use Rattle.std.proofs.lemmas.Nat.{mod-mul-add, pow-add, mod_below}
@@ -105,7 +106,8 @@ hits-none [] name key m c = refl
 hits-none (leaf ∷ leaves) name key m c =
     let a : overlaps leaf.name name ≡ false = grind (arith, nat_tests, m) in
     let b : meets leaves name ≡ false = grind (arith, nat_tests, m) in
-    let h : covers leaf.name key ≡ false = elim (covers leaf.name key) as (λ t. covers leaf.name key ≡ t → t ≡ false) [ true ↦ λ e. absurd (let o : overlaps leaf.name name ≡ true = shares-at leaf.name name key e c in cc (o, a)) | false ↦ λ e. refl ] refl in
+    let h : covers leaf.name key ≡ false = elim (covers leaf.name key) as (λ t. covers leaf.name key ≡ t → t ≡ false)
+    [ true ↦ λ e. absurd (let o : overlaps leaf.name name ≡ true = shares-at leaf.name name key e c in cc (o, a)) | false ↦ λ e. refl ] refl in
     omega (arith, ap one_if h, hits-none leaves name key b c)
 
 hits-most : (leaves : List Leaf) (key : ℕ) → AreApart leaves → hits leaves key ≤ 1
@@ -124,7 +126,8 @@ over-full : (n : ℕ) (f : ℕ → ℕ) → ((k : ℕ) → f k ≤ 1) → over n
 over-full zero f h e k l = absurd (omega (arith, l))
 over-full (suc n) f h e k l = elim (k == n) as (λ t. (k == n) ≡ t → f k ≡ 1) [
   | true ↦ λ x. let q : k ≡ n = grind (arith, nat_tests, x) in rw q (omega (arith, over-suc n f, over-most n f h, h n, e))
-  | false ↦ λ x. let q : k ≢ n = (λ y. grind (arith, nat_tests, x, y)) in over-full n f h (omega (arith, over-suc n f, over-most n f h, h n, e)) k (omega (arith, l, q))
+  | false ↦ λ x. let q : k ≢ n = (λ y. grind (arith, nat_tests, x, y)) in
+      over-full n f h (omega (arith, over-suc n f, over-most n f h, h n, e)) k (omega (arith, l, q))
 ] refl
 
 over-ones : (n : ℕ) (f : ℕ → ℕ) → ((k : ℕ) → f k ≡ 1) → over n f ≡ n
@@ -146,7 +149,8 @@ hit-covered (leaf ∷ leaves) key h = elim (covers leaf.name key) as (λ t. IsTr
 ] h
 
 -- the lowest bits of a key tell which names cover it
-covered-ending : (bricks : ℕ) (leaves : List Leaf) (key : ℕ) → AllByRecursion (IsPlaced bricks) leaves → is_covered leaves (key % 2 ^ 16) ≡ is_covered leaves key
+covered-ending : (bricks : ℕ) (leaves : List Leaf) (key : ℕ) → AllByRecursion (IsPlaced bricks) leaves →
+    is_covered leaves (key % 2 ^ 16) ≡ is_covered leaves key
 covered-ending bricks [] key all = refl
 covered-ending bricks (leaf ∷ leaves) key all =
     let e : covers leaf.name (key % 2 ^ 16) ≡ covers leaf.name key = ap (λ (x : ℕ). x == leaf.name.bits) (mod-mod-le key leaf.name.depth 16 all.0.name.depth) in
@@ -156,26 +160,30 @@ pub shares-most : (bricks : ℕ) (leaves : List Leaf) (top : ℕ) → top ≡ 65
 shares-most bricks leaves top t apart all =
     omega (arith, t, over-leaves bricks leaves top t all, over-most top (hits leaves) (λ k. hits-most leaves k apart))
 
-cover-shares : (bricks : ℕ) (leaves : List Leaf) (top : ℕ) → top ≡ 65536 → AreApart leaves → AllByRecursion (IsPlaced bricks) leaves → shares leaves ≡ 65536 → CoverAll leaves
+cover-shares : (bricks : ℕ) (leaves : List Leaf) (top : ℕ) → top ≡ 65536 → AreApart leaves → AllByRecursion (IsPlaced bricks) leaves → shares leaves ≡ 65536 →
+    CoverAll leaves
 cover-shares bricks leaves top t apart all s key =
     let full : over top (hits leaves) ≡ top = omega (arith, t, s, over-leaves bricks leaves top t all) in
     let low : key % 2 ^ 16 < top = omega (arith, t, mod_below key (2 ^ 16) (lit< tt)) in
     let one = over-full top (hits leaves) (λ k. hits-most leaves k apart) full (key % 2 ^ 16) low in
     sym (covered-ending bricks leaves key all) ∙ covered-hit leaves (key % 2 ^ 16) one
 
-shares-cover : (bricks : ℕ) (leaves : List Leaf) (top : ℕ) → top ≡ 65536 → AreApart leaves → AllByRecursion (IsPlaced bricks) leaves → CoverAll leaves → shares leaves ≡ 65536
+shares-cover : (bricks : ℕ) (leaves : List Leaf) (top : ℕ) → top ≡ 65536 → AreApart leaves → AllByRecursion (IsPlaced bricks) leaves → CoverAll leaves →
+    shares leaves ≡ 65536
 shares-cover bricks leaves top t apart all c =
     let ones = over-ones top (hits leaves) (λ k. omega (arith, hits-most leaves k apart, hit-covered leaves k (c k))) in
     omega (arith, t, ones, over-leaves bricks leaves top t all)
 
 -- the sum of the shares tells whether each key is covered
-pub sum-tells : (leaves : List Leaf) (sum : ℕ) → AreApart leaves → (bricks : ℕ) × AllByRecursion (IsPlaced bricks) leaves → sum ≡ shares leaves → (IsTrue (nat_eq sum 65536) → CoverAll leaves) × (CoverAll leaves → IsTrue (nat_eq sum 65536))
+pub sum-tells : (leaves : List Leaf) (sum : ℕ) → AreApart leaves → (bricks : ℕ) × AllByRecursion (IsPlaced bricks) leaves → sum ≡ shares leaves →
+    (IsTrue (nat_eq sum 65536) → CoverAll leaves) × (CoverAll leaves → IsTrue (nat_eq sum 65536))
 sum-tells leaves sum apart placed e = (
   λ h. cover-shares placed.0 leaves 65536 refl apart placed.1 (let q : sum ≡ 65536 = grind (arith, nat_tests, h) in sym e ∙ q),
   λ c. let q : sum ≡ 65536 = e ∙ shares-cover placed.0 leaves 65536 refl apart placed.1 c in grind (arith, nat_tests, q),
 )
 
-pub shares-drop : (leaves : List Leaf) (place : ℕ) (leaf : Leaf) → place < length leaves → leaf ≡ get_or leaves place leaf → shares (drop place leaves) ≡ share leaf.name + shares (drop (place + 1) leaves)
+pub shares-drop : (leaves : List Leaf) (place : ℕ) (leaf : Leaf) → place < length leaves → leaf ≡ get_or leaves place leaf →
+    shares (drop place leaves) ≡ share leaf.name + shares (drop (place + 1) leaves)
 shares-drop leaves place leaf h e =
     let d : drop place leaves ≡ get_or leaves place leaf ∷ drop (place + 1) leaves = rw add-one (drop-cons leaves place leaf h) in
     ap shares d ∙ ap (λ (l : Leaf). share l.name + shares (drop (place + 1) leaves)) (sym e)

@@ -1,5 +1,6 @@
 -- Lists of bricks that are no groups.
-use Rattle.std.proofs.Common.{◌≡◌, ℕ, ◌≤◌, ◌&&◌, ◌||◌, Bool, true, false, nat_le, nat_lt, not, List, [], ◌∷◌, length, Option, Some, None, refl, sym, ◌∙◌, arith, if◌then◌else◌}
+use Rattle.std.proofs.Common.{◌≡◌, ℕ, ◌≤◌, ◌&&◌, ◌||◌, Bool, true, false, nat_le, nat_lt, not, List, [], ◌∷◌, length, Option, Some, None}
+use Rattle.std.proofs.Common.{refl, sym, ◌∙◌, arith, if◌then◌else◌}
 use Rattle.std.proofs.lemmas.Bool.Decides.{nat_tests}
 use Rattle.dds_base.specs.BrickList.{are_bricks, has, is_brick_list}
 use Rattle.dds_script.specs.Fields.{IsListWord}
@@ -22,7 +23,8 @@ none-test true x r n e = absurd (let q : Some x ≡ None = sym e ∙ n in cc q)
 none-test false x r n e = refl
 
 -- one to eight bricks that are no group
-pub list-twice : (bricks : ℕ) (word list : List ℕ) (made : Option (List ℕ)) → bricks ≤ 64 → IsListWord bricks word list → made ≡ None → made ≡ (if is_brick_list list then Some list else None) → IsRepeating bricks word
+pub list-twice : (bricks : ℕ) (word list : List ℕ) (made : Option (List ℕ)) → bricks ≤ 64 → IsListWord bricks word list → made ≡ None →
+    made ≡ (if is_brick_list list then Some list else None) → IsRepeating bricks word
 list-twice bricks word list made b is n e =
     let none : is_brick_list list ≡ false = none-test (is_brick_list list) list made n e in
     let some : nat_le 1 (length list) ≡ true = (let h = is.some in grind (arith, nat_tests, h)) in

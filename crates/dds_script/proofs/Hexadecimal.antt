@@ -1,5 +1,6 @@
 -- Two hexadecimal digits for each byte.
-use Rattle.std.proofs.Common.{◌≡◌, ◌≢◌, ℕ, ◌+◌, ◌*◌, ◌/◌, ◌%◌, ◌<◌, ◌≤◌, List, [], ◌∷◌, ◌++◌, length, get_or, take, codes, refl, ap, sym, ◌∙◌, arith, suc, zero, append_assoc, Bool, true, Option, Some, None, nat_le, subst, if◌then◌else◌}
+use Rattle.std.proofs.Common.{◌≡◌, ◌≢◌, ℕ, ◌+◌, ◌*◌, ◌/◌, ◌%◌, ◌<◌, ◌≤◌, List, [], ◌∷◌, ◌++◌, length, get_or, take, codes, refl, ap, sym}
+use Rattle.std.proofs.Common.{◌∙◌, arith, suc, zero, append_assoc, Bool, true, Option, Some, None, nat_le, subst, if◌then◌else◌}
 use Rattle.std.proofs.lemmas.Bool.Decides.{nat_tests}
 use Rattle.std.proofs.lemmas.Grind.{common_steps}
 use Rattle.std.specs.Char.{digit_char}
@@ -24,7 +25,8 @@ bytes-at (x ∷ bytes) zero h p = h.0
 bytes-at (x ∷ bytes) (suc place) h p = bytes-at bytes place h.1 (omega arith)
 
 -- the digits of one byte
-pub hex-at : (bytes : List ℕ) (place : ℕ) → place < length bytes → (get_or (hex_text bytes) (2 * place) 0 ≡ digit_char (get_or bytes place 0 / 16)) × (get_or (hex_text bytes) (2 * place + 1) 0 ≡ digit_char (get_or bytes place 0 % 16))
+pub hex-at : (bytes : List ℕ) (place : ℕ) → place < length bytes → (get_or (hex_text bytes) (2 * place) 0 ≡ digit_char (get_or bytes place 0 / 16))
+    × (get_or (hex_text bytes) (2 * place + 1) 0 ≡ digit_char (get_or bytes place 0 % 16))
 hex-at [] place p = absurd (omega arith)
 hex-at (x ∷ bytes) zero p = (refl, refl)
 hex-at (x ∷ bytes) (suc place) p =
@@ -34,7 +36,8 @@ hex-at (x ∷ bytes) (suc place) p =
     rw (a, b) (r.0, r.1)
 
 -- no byte's digits stand there
-pub no-hex : (word : List ℕ) (place : ℕ) → 2 * place + 1 < length word → ((byte : ℕ) → IsByte (get_or word (2 * place) 0) (get_or word (2 * place + 1) 0) byte → ⊥) → (bytes : List ℕ) → IsHexText word bytes → ⊥
+pub no-hex : (word : List ℕ) (place : ℕ) → 2 * place + 1 < length word →
+    ((byte : ℕ) → IsByte (get_or word (2 * place) 0) (get_or word (2 * place + 1) 0) byte → ⊥) → (bytes : List ℕ) → IsHexText word bytes → ⊥
 no-hex word place p h bytes is =
     let n : place < length bytes = omega (arith, hex-length bytes, ap length is.0) in
     let d = hex-at bytes place n in
@@ -47,9 +50,11 @@ two-more : (xs : List ℕ) (i j : ℕ) → j ≡ i + 1 + 1 → i + 1 < length xs
 two-more xs i j e h = rw (e, one-more xs (i + 1) h, one-more xs i (omega arith)) (append_assoc (take i xs) (get_or xs i 0 ∷ []) (get_or xs (i + 1) 0 ∷ []))
 
 -- one byte more
-pub hex-more : (word bytes : List ℕ) (place byte : ℕ) → 2 * place + 1 < length word → take (2 * place) word ≡ hex_text bytes → IsByte (get_or word (2 * place) 0) (get_or word (2 * place + 1) 0) byte → take (2 * (place + 1)) word ≡ hex_text (bytes ++ byte ∷ [])
+pub hex-more : (word bytes : List ℕ) (place byte : ℕ) → 2 * place + 1 < length word → take (2 * place) word ≡ hex_text bytes →
+    IsByte (get_or word (2 * place) 0) (get_or word (2 * place + 1) 0) byte → take (2 * (place + 1)) word ≡ hex_text (bytes ++ byte ∷ [])
 hex-more word bytes place byte p so_far is =
-    let e : take (2 * (place + 1)) word ≡ take (2 * place) word ++ get_or word (2 * place) 0 ∷ get_or word (2 * place + 1) 0 ∷ [] = two-more word (2 * place) (2 * (place + 1)) (omega arith) p in
+    let e : take (2 * (place + 1)) word ≡ take (2 * place) word ++ get_or word (2 * place) 0 ∷ get_or word (2 * place + 1) 0
+    ∷ [] = two-more word (2 * place) (2 * (place + 1)) (omega arith) p in
     e ∙ rw (so_far, is.0, is.1) (sym (hex-push bytes byte))
 
 -- an odd number of digits
@@ -59,12 +64,17 @@ odd-hex word bytes odd is = omega (arith, hex-length bytes, ap length is.0)
 -- a value's word that isn't `-`
 pub value-hex : (word value : List ℕ) → word ≢ codes "-" → IsValueWord word value → IsHexText word value × (0 < length word) × (length word ≤ 120000)
 value-hex word [] dash is = absurd (dash is.0)
-value-hex word (byte ∷ bytes) dash is = ((is.0, is.1.1), omega (arith, hex-length (byte ∷ bytes), ap length is.0), omega (arith, hex-length (byte ∷ bytes), ap length is.0))
+value-hex word (byte ∷ bytes) dash is = (
+  (is.0, is.1.1),
+  omega (arith, hex-length (byte ∷ bytes), ap length is.0),
+  omega (arith, hex-length (byte ∷ bytes), ap length is.0),
+)
 
 -- a hexadecimal digit isn't the mark
 
 -- the bytes of a value's word are the value
-pub hex-value : (word bytes : List ℕ) (made : Option (List ℕ)) → IsHexText word bytes → 0 < length word → length word ≤ 120000 → made ≡ (if nat_le (length bytes) 60000 then Some bytes else None) → IsRead (IsValueWord word) made
+pub hex-value : (word bytes : List ℕ) (made : Option (List ℕ)) → IsHexText word bytes → 0 < length word → length word ≤ 120000 →
+    made ≡ (if nat_le (length bytes) 60000 then Some bytes else None) → IsRead (IsValueWord word) made
 hex-value word [] made is some few e = absurd (omega (arith, some, ap length is.0))
 hex-value word (byte ∷ bytes) made is some few e =
     let n : length (byte ∷ bytes) ≤ 60000 = omega (arith, few, hex-length (byte ∷ bytes), ap length is.0) in

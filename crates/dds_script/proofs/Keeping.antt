@@ -1,5 +1,6 @@
 -- What a reader keeps while it reads.
-use Rattle.std.proofs.Common.{◌≡◌, ◌==◌, ℕ, ◌+◌, ◌^◌, ◌<◌, ◌≤◌, ◌%◌, min, true, false, List, [], ◌∷◌, ◌++◌, length, inl, inr, refl, ap, sym, ◌∙◌, subst, arith, length-append, append-nil, append_assoc}
+use Rattle.std.proofs.Common.{◌≡◌, ◌==◌, ℕ, ◌+◌, ◌^◌, ◌<◌, ◌≤◌, ◌%◌, min, true, false, List, [], ◌∷◌, ◌++◌, length, inl, inr, refl, ap, sym}
+use Rattle.std.proofs.Common.{◌∙◌, subst, arith, length-append, append-nil, append_assoc}
 use Rattle.std.proofs.lemmas.Bool.Decides.{nat_tests}
 use Rattle.std.specs.List.{AllByRecursion}
 use Rattle.dds_base.specs.Name.{Name, overlaps}
@@ -18,7 +19,8 @@ all-push : {X : Type 0} (P : X → Type 0) (xs : List X) (x : X) → AllByRecurs
 all-push P [] x h p = (p, tt)
 all-push P (y ∷ xs) x h p = (h.0, all-push P xs x h.1 p)
 
-numbers-push : (n : ℕ) (leaves : List Leaf) (name : Name) (list : List ℕ) → AreOpeningLeaves n leaves → AreOpeningLeaves n (leaves ++ opening_leaf (n + length leaves) name list ∷ [])
+numbers-push : (n : ℕ) (leaves : List Leaf) (name : Name) (list : List ℕ) → AreOpeningLeaves n leaves →
+    AreOpeningLeaves n (leaves ++ opening_leaf (n + length leaves) name list ∷ [])
 numbers-push n [] name list h =
     let e : n + 0 ≡ n = omega arith in
     (ap (λ (m : ℕ). opening_leaf m name list) e, tt)
@@ -49,7 +51,9 @@ apart-push (x ∷ leaves) l a m =
     let b : meets leaves l.name ≡ false = grind (arith, nat_tests, m) in
     (meets-push leaves l x.name a.0 (flip l.name x.name ∙ o), apart-push leaves l a.1 b)
 
-stale-push : (libraries : ℕ) (before leaves : List Leaf) (library : ℕ) (name : Name) (list : List ℕ) → library < libraries → AreStaleLeaves libraries before leaves → AreStaleLeaves libraries before (leaves ++ stale_leaf library (stale_at library (before ++ leaves)) name list ∷ [])
+stale-push : (libraries : ℕ) (before leaves : List Leaf) (library : ℕ) (name : Name) (list : List ℕ) → library < libraries →
+    AreStaleLeaves libraries before leaves →
+    AreStaleLeaves libraries before (leaves ++ stale_leaf library (stale_at library (before ++ leaves)) name list ∷ [])
 stale-push libraries before [] library name list l h =
     ((library, l, ap (λ (b : List Leaf). stale_leaf library (stale_at library b) name list) (append-nil before)), tt)
 stale-push libraries before (x ∷ leaves) library name list l h =
@@ -59,7 +63,14 @@ stale-push libraries before (x ∷ leaves) library name list l h =
 
 pub sound-first : IsSound first_reader
 sound-first = record {
-  ranges = record { some_brick = omega arith; bricks = omega arith; some_library = omega arith; libraries = omega arith; some_caller = omega arith; callers = omega arith };
+  ranges = record {
+    some_brick = omega arith;
+    bricks = omega arith;
+    some_library = omega arith;
+    libraries = omega arith;
+    some_caller = omega arith;
+    callers = omega arith;
+  };
   leaves = tt;
   numbers = tt;
   apart = tt;
@@ -88,7 +99,8 @@ sound-blank s places.Body e h = record {
   old = h.old;
   old_numbers = h.old_numbers;
   lines = all-push (IsInRanges s.ranges) s.lines lines.Nothing h.lines tt;
-  fresh = let f : IsFresh places.Body s = subst (λ (x : Place). IsFresh x s) e h.fresh in subst (λ (x : Place). IsFresh x (record s { lines = s.lines ++ lines.Nothing ∷ [] })) (sym e) f;
+  fresh = let f : IsFresh places.Body s = subst (λ (x : Place). IsFresh x s) e h.fresh in
+      subst (λ (x : Place). IsFresh x (record s { lines = s.lines ++ lines.Nothing ∷ [] })) (sym e) f;
 }
 
 pub sound-by : (s : Reader) (ws : List (List ℕ)) (next : Reader) → MovesBy s ws next → IsSound s → IsSound next

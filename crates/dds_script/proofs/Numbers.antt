@@ -34,7 +34,8 @@ pub begins-number : (word : List ℕ) (n : ℕ) → IsNumber word n → (0 < len
 begins-number word n h = rw h.0 (begins n h.1)
 
 -- digits that begin well are their number's word
-pub number-word : (word text : List ℕ) (n : ℕ) → text ≡ word → get_or word 0 0 ≢ 43 → (get_or word 0 0 ≡ 48 → length word ≡ 1) → ParsesUnsigned {E = ℕ} 64 10 text (Ok n) → IsNumber word n
+pub number-word : (word text : List ℕ) (n : ℕ) → text ≡ word → get_or word 0 0 ≢ 43 → (get_or word 0 0 ≡ 48 → length word ≡ 1) →
+    ParsesUnsigned {E = ℕ} 64 10 text (Ok n) → IsNumber word n
 number-word word text n e plus lone h =
     let p = parse_plain own {E = ℕ} 64 word (Ok n) (subst (λ (t : List ℕ). ParsesUnsigned {E = ℕ} 64 10 t (Ok n)) e h) plus in
     let w = decimal-digits_value own word p.0.0 p.0.1 lone p.0.2 in

@@ -13,7 +13,8 @@ use Rattle.dds_script.specs.Reading.{IsNumber, IsValueWord}
 use Rattle.dds_script.specs.Text.{brick_text}
 use Rattle.dds_script.specs.Words.{word}
 use Rattle.dds_script.specs.declared.form.Form.{Form}
-use Rattle.dds_script.specs.declared.form.Form.TheVariants.{Blank, Cluster, Leaf, Old, Get, Put, Remove, Swap, Stop, Join, Split, Fifo, Newest, Seed, Events, Quiet, Post, Take, Show}
+use Rattle.dds_script.specs.declared.form.Form.TheVariants.{Blank, Cluster, Leaf, Old, Get, Put, Remove, Swap, Stop, Join, Split, Fifo}
+use Rattle.dds_script.specs.declared.form.Form.TheVariants.{Newest, Seed, Events, Quiet, Post, Take, Show}
 use Rattle.dds_script.specs.declared.line.Line.{Line}
 use Rattle.dds_script.specs.declared.line.Line.TheVariants as line
 use Rattle.dds_script.specs.declared.line.Picker.TheVariants as picker
@@ -26,11 +27,14 @@ IsOf r Cluster ws l = ⊥
 IsOf r Leaf ws l = ⊥
 IsOf r Old ws l = ⊥
 IsOf r Get ws l = (caller : ℕ) × (key : ℕ) × (l ≡ line.Call caller (op.Get key)) × IsBelow r.callers (word ws 0) caller × IsNumber (word ws 2) key
-IsOf r Put ws l = (caller : ℕ) × (key : ℕ) × (value : List ℕ) × (l ≡ line.Call caller (op.Put key value)) × IsBelow r.callers (word ws 0) caller × IsNumber (word ws 2) key × IsValueWord (word ws 3) value
+IsOf r Put ws l = (caller : ℕ) × (key : ℕ) × (value : List ℕ) × (l ≡ line.Call caller (op.Put key value)) × IsBelow r.callers (word ws 0) caller
+    × IsNumber (word ws 2) key × IsValueWord (word ws 3) value
 IsOf r Remove ws l = (caller : ℕ) × (key : ℕ) × (l ≡ line.Call caller (op.Remove key)) × IsBelow r.callers (word ws 0) caller × IsNumber (word ws 2) key
-IsOf r Swap ws l = (caller : ℕ) × (key : ℕ) × (expected : List ℕ) × (value : List ℕ) × (l ≡ line.Call caller (op.Swap key expected value)) × IsBelow r.callers (word ws 0) caller × IsNumber (word ws 2) key × IsValueWord (word ws 3) expected × IsValueWord (word ws 4) value
+IsOf r Swap ws l = (caller : ℕ) × (key : ℕ) × (expected : List ℕ) × (value : List ℕ) × (l ≡ line.Call caller (op.Swap key expected value))
+    × IsBelow r.callers (word ws 0) caller × IsNumber (word ws 2) key × IsValueWord (word ws 3) expected × IsValueWord (word ws 4) value
 IsOf r Stop ws l = (node : ℕ) × (l ≡ line.Stop node) × IsNodeWord r (word ws 1) node
-IsOf r Join ws l = (brick : ℕ) × (name : Name) × (via : ℕ) × (l ≡ line.Join brick name via) × IsBrickWord r.bricks (word ws 1) brick × IsNameWord (word ws 2) name × IsBrickWord r.bricks (word ws 3) via
+IsOf r Join ws l = (brick : ℕ) × (name : Name) × (via : ℕ) × (l ≡ line.Join brick name via) × IsBrickWord r.bricks (word ws 1) brick
+    × IsNameWord (word ws 2) name × IsBrickWord r.bricks (word ws 3) via
 IsOf r Split ws l = (brick : ℕ) × (name : Name) × (l ≡ line.Split brick name) × IsBrickWord r.bricks (word ws 1) brick × IsNameWord (word ws 2) name
 IsOf r Fifo ws l = l ≡ line.Pick picker.Fifo
 IsOf r Newest ws l = l ≡ line.Pick picker.Newest
@@ -48,13 +52,31 @@ IsOfSome r (Some f) ws l = IsOf r f ws l
 of-line : (r : Ranges) (l : Line) → IsRanges r → IsInRanges r l → (l ≡ line.Nothing → ⊥) → IsOfSome r (form_of (line_words l)) (line_words l) l
 of-line r (line.Call caller (op.Get key)) is h n =
     let small : caller < 2 ^ 64 = omega (arith, h.0, is.callers) in
-    rw (apart-word caller 108 _ small (omega arith), apart-word caller 115 _ small (omega arith), apart-word caller 116 _ small (omega arith), apart-word caller 112 _ small (omega arith)) (caller, key, refl, record { spelled = refl; below = h.0 }, (refl, h.1))
+    rw (
+      apart-word caller 108 _ small (omega arith),
+      apart-word caller 115 _ small (omega arith),
+      apart-word caller 116 _ small (omega arith),
+      apart-word caller 112 _ small (omega arith),
+    ) (caller, key, refl, record { spelled = refl; below = h.0 }, (refl, h.1))
 of-line r (line.Call caller (op.Remove key)) is h n =
     let small : caller < 2 ^ 64 = omega (arith, h.0, is.callers) in
-    rw (apart-word caller 108 _ small (omega arith), apart-word caller 115 _ small (omega arith), apart-word caller 116 _ small (omega arith), apart-word caller 112 _ small (omega arith)) (caller, key, refl, record { spelled = refl; below = h.0 }, (refl, h.1))
+    rw (
+      apart-word caller 108 _ small (omega arith),
+      apart-word caller 115 _ small (omega arith),
+      apart-word caller 116 _ small (omega arith),
+      apart-word caller 112 _ small (omega arith),
+    ) (caller, key, refl, record { spelled = refl; below = h.0 }, (refl, h.1))
 of-line r (line.Call caller (op.Put key value)) is h n =
     let small : caller < 2 ^ 64 = omega (arith, h.0, is.callers) in
-    rw (apart-word caller 99 _ small (omega arith), apart-word caller 111 _ small (omega arith), apart-word caller 106 _ small (omega arith)) (caller, key, value, refl, record { spelled = refl; below = h.0 }, (refl, h.1.0), (refl, h.1.1))
+    rw (apart-word caller 99 _ small (omega arith), apart-word caller 111 _ small (omega arith), apart-word caller 106 _ small (omega arith)) (
+      caller,
+      key,
+      value,
+      refl,
+      record { spelled = refl; below = h.0 },
+      (refl, h.1.0),
+      (refl, h.1.1),
+    )
 of-line r (line.Call caller (op.Swap key expected value)) is h n =
     (caller, key, expected, value, refl, record { spelled = refl; below = h.0 }, (refl, h.1.0), (refl, h.1.1), (refl, h.1.2))
 of-line r (line.Stop node) is h n = (node, refl, (refl, h))
@@ -99,13 +121,16 @@ same-of r Put ws a b is x y =
     let p = same-below r.callers (word ws 0) x.0 y.0 is.callers x.4 y.4 in
     let q = same-number (word ws 2) x.1 y.1 x.5 y.5 in
     let v = same-value x.2 y.2 x.6.1 y.6.1 (sym x.6.0 ∙ y.6.0) in
-    x.3 ∙ (ap (λ (n : ℕ). line.Call n (op.Put x.1 x.2)) p ∙ (ap (λ (n : ℕ). line.Call y.0 (op.Put n x.2)) q ∙ (ap (λ (n : List ℕ). line.Call y.0 (op.Put y.1 n)) v ∙ sym y.3)))
+    x.3 ∙ (ap (λ (n : ℕ). line.Call n (op.Put x.1 x.2)) p
+    ∙ (ap (λ (n : ℕ). line.Call y.0 (op.Put n x.2)) q ∙ (ap (λ (n : List ℕ). line.Call y.0 (op.Put y.1 n)) v ∙ sym y.3)))
 same-of r Swap ws a b is x y =
     let p = same-below r.callers (word ws 0) x.0 y.0 is.callers x.5 y.5 in
     let q = same-number (word ws 2) x.1 y.1 x.6 y.6 in
     let u = same-value x.2 y.2 x.7.1 y.7.1 (sym x.7.0 ∙ y.7.0) in
     let v = same-value x.3 y.3 x.8.1 y.8.1 (sym x.8.0 ∙ y.8.0) in
-    x.4 ∙ (ap (λ (n : ℕ). line.Call n (op.Swap x.1 x.2 x.3)) p ∙ (ap (λ (n : ℕ). line.Call y.0 (op.Swap n x.2 x.3)) q ∙ (ap (λ (n : List ℕ). line.Call y.0 (op.Swap y.1 n x.3)) u ∙ (ap (λ (n : List ℕ). line.Call y.0 (op.Swap y.1 y.2 n)) v ∙ sym y.4))))
+    x.4 ∙ (ap (λ (n : ℕ). line.Call n (op.Swap x.1 x.2 x.3)) p
+    ∙ (ap (λ (n : ℕ). line.Call y.0 (op.Swap n x.2 x.3)) q
+    ∙ (ap (λ (n : List ℕ). line.Call y.0 (op.Swap y.1 n x.3)) u ∙ (ap (λ (n : List ℕ). line.Call y.0 (op.Swap y.1 y.2 n)) v ∙ sym y.4))))
 same-of r Stop ws a b is x y = x.1 ∙ (ap line.Stop (same-node r x.0 y.0 is x.2.1 y.2.1 (sym x.2.0 ∙ y.2.0)) ∙ sym y.1)
 same-of r Join ws a b is x y =
     let p = same-brick r.bricks (word ws 1) x.0 y.0 is.bricks x.4 y.4 in

@@ -1,5 +1,6 @@
 -- Words spell one line.
-use Rattle.std.proofs.Common.{◌≡◌, ℕ, ◌-◌, ◌/◌, ◌%◌, ◌^◌, ◌<◌, ◌≤◌, inl, inr, Bool, true, false, nat_lt, List, [], ◌∷◌, refl, ap, sym, ◌∙◌, arith, if◌then◌else◌}
+use Rattle.std.proofs.Common.{◌≡◌, ℕ, ◌-◌, ◌/◌, ◌%◌, ◌^◌, ◌<◌, ◌≤◌, inl, inr, Bool, true, false, nat_lt, List, [], ◌∷◌, refl, ap, sym, ◌∙◌}
+use Rattle.std.proofs.Common.{arith, if◌then◌else◌}
 use Rattle.std.proofs.lemmas.Bool.Decides.{nat_tests}
 use Rattle.std.proofs.lemmas.Fmt.{decimal_injective}
 use Rattle.std.specs.Char.{digit_char}
@@ -58,11 +59,13 @@ tails x y xs ys e = (cc, cc)
 pub same-node : (r : Ranges) (m n : ℕ) → IsRanges r → IsNode r m → IsNode r n → node_text m ≡ node_text n → m ≡ n
 same-node r m n is a b e = elim a [
   | inl x ↦ elim b [
-    | inl y ↦ let t = tails 98 98 _ _ (sym (brick-node m (omega (arith, x, is.bricks))) ∙ (e ∙ brick-node n (omega (arith, y, is.bricks)))) in decimal_injective m n (omega (arith, x, is.bricks)) (omega (arith, y, is.bricks)) t.1
+    | inl y ↦ let t = tails 98 98 _ _ (sym (brick-node m (omega (arith, x, is.bricks))) ∙ (e ∙ brick-node n (omega (arith, y, is.bricks)))) in
+        decimal_injective m n (omega (arith, x, is.bricks)) (omega (arith, y, is.bricks)) t.1
     | inr y ↦ absurd (let t = tails 98 108 _ _ (sym (brick-node m (omega (arith, x, is.bricks))) ∙ (e ∙ library-node n y.0)) in let q = t.0 in omega (arith, q))
   ]
   | inr x ↦ elim b [
     | inl y ↦ absurd (let t = tails 108 98 _ _ (sym (library-node m x.0) ∙ (e ∙ brick-node n (omega (arith, y, is.bricks)))) in let q = t.0 in omega (arith, q))
-    | inr y ↦ let t = tails 108 108 _ _ (sym (library-node m x.0) ∙ (e ∙ library-node n y.0)) in let q = decimal_injective (m - 64) (n - 64) (omega (arith, x.1, is.libraries)) (omega (arith, y.1, is.libraries)) t.1 in omega (arith, q, x.0, y.0)
+    | inr y ↦ let t = tails 108 108 _ _ (sym (library-node m x.0) ∙ (e ∙ library-node n y.0)) in
+        let q = decimal_injective (m - 64) (n - 64) (omega (arith, x.1, is.libraries)) (omega (arith, y.1, is.libraries)) t.1 in omega (arith, q, x.0, y.0)
   ]
 ]

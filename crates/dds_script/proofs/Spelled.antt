@@ -18,20 +18,32 @@ use Rattle.dds_script.specs.declared.ranges.Ranges.{Ranges}
 -- a number is no word that begins with a letter
 pub apart-word : (n c : ℕ) (rest : List ℕ) → n < 2 ^ 64 → 57 < c → bytes_eq (decimal n) (c ∷ rest) ≡ false
 apart-word n c rest small letter = elim (bytes_eq (decimal n) (c ∷ rest)) as (λ t. bytes_eq (decimal n) (c ∷ rest) ≡ t → t ≡ false) [
-  | true ↦ λ e. absurd (let w : decimal n ≡ c ∷ rest = same_text (decimal n) (c ∷ rest) (sym e) in (subst (λ (t : List ℕ). HasNo c t) w (decimal-hasno c n (inr letter) small)).0 refl)
+  | true ↦ λ e. absurd (let w : decimal n ≡ c ∷ rest = same_text (decimal n) (c ∷ rest) (sym e) in
+      (subst (λ (t : List ℕ). HasNo c t) w (decimal-hasno c n (inr letter) small)).0 refl)
   | false ↦ λ e. refl
 ] refl
 
 right-line : (r : Ranges) (l : Line) → IsRanges r → IsInRanges r l → (l ≡ line.Nothing → ⊥) → AreRight r (form_of (line_words l)) (line_words l)
 right-line r (line.Call caller (op.Get key)) is h n =
     let small : caller < 2 ^ 64 = omega (arith, h.0, is.callers) in
-    rw (apart-word caller 108 _ small (omega arith), apart-word caller 115 _ small (omega arith), apart-word caller 116 _ small (omega arith), apart-word caller 112 _ small (omega arith)) (refl, ((caller, record { spelled = refl; below = h.0 }), (key, (refl, h.1))), tt)
+    rw (
+      apart-word caller 108 _ small (omega arith),
+      apart-word caller 115 _ small (omega arith),
+      apart-word caller 116 _ small (omega arith),
+      apart-word caller 112 _ small (omega arith),
+    ) (refl, ((caller, record { spelled = refl; below = h.0 }), (key, (refl, h.1))), tt)
 right-line r (line.Call caller (op.Remove key)) is h n =
     let small : caller < 2 ^ 64 = omega (arith, h.0, is.callers) in
-    rw (apart-word caller 108 _ small (omega arith), apart-word caller 115 _ small (omega arith), apart-word caller 116 _ small (omega arith), apart-word caller 112 _ small (omega arith)) (refl, ((caller, record { spelled = refl; below = h.0 }), (key, (refl, h.1))), tt)
+    rw (
+      apart-word caller 108 _ small (omega arith),
+      apart-word caller 115 _ small (omega arith),
+      apart-word caller 116 _ small (omega arith),
+      apart-word caller 112 _ small (omega arith),
+    ) (refl, ((caller, record { spelled = refl; below = h.0 }), (key, (refl, h.1))), tt)
 right-line r (line.Call caller (op.Put key value)) is h n =
     let small : caller < 2 ^ 64 = omega (arith, h.0, is.callers) in
-    rw (apart-word caller 99 _ small (omega arith), apart-word caller 111 _ small (omega arith), apart-word caller 106 _ small (omega arith)) (refl, ((caller, record { spelled = refl; below = h.0 }), (key, (refl, h.1.0))), (value, (refl, h.1.1)))
+    rw (apart-word caller 99 _ small (omega arith), apart-word caller 111 _ small (omega arith), apart-word caller 106 _ small (omega arith))
+    (refl, ((caller, record { spelled = refl; below = h.0 }), (key, (refl, h.1.0))), (value, (refl, h.1.1)))
 right-line r (line.Call caller (op.Swap key expected value)) is h n =
     (refl, ((caller, record { spelled = refl; below = h.0 }), (key, (refl, h.1.0))), ((expected, (refl, h.1.1)), (value, (refl, h.1.2))))
 right-line r (line.Stop node) is h n = (refl, (node, (refl, h)), tt)

@@ -1,5 +1,6 @@
 -- What the words for numbers and names spell, they spell alone.
-use Rattle.std.proofs.Common.{◌≡◌, ℕ, ◌+◌, ◌^◌, ◌<◌, ◌≤◌, ◌⊎◌, inl, inr, ◌&&◌, Bool, true, false, nat_le, nat_lt, List, ◌∷◌, ◌++◌, take, drop, Option, Some, None, refl, sym, ◌∙◌, subst, arith, lit<, if◌then◌else◌}
+use Rattle.std.proofs.Common.{◌≡◌, ℕ, ◌+◌, ◌^◌, ◌<◌, ◌≤◌, ◌⊎◌, inl, inr, ◌&&◌, Bool, true, false, nat_le, nat_lt, List, ◌∷◌, ◌++◌, take}
+use Rattle.std.proofs.Common.{drop, Option, Some, None, refl, sym, ◌∙◌, subst, arith, lit<, if◌then◌else◌}
 use Rattle.std.proofs.lemmas.Bool.Decides.{nat_tests}
 use Rattle.std.proofs.Math.Pow.{pow_mono}
 use Rattle.std.proofs.lemmas.Fmt.{decimal_injective}
@@ -33,8 +34,10 @@ pub name-bits : (name : Name) → IsName name → name.bits < 65536
 name-bits name is = omega (arith, pow-top name.depth is.depth, is.bits)
 
 -- the parts are the name that is made of their numbers, or of no name
-pub parts-name : (bits depth : List ℕ) (b d : ℕ) (made : Option Name) → IsNumber bits b → IsBelow 17 depth d → made ≡ (if nat_le d 16 && nat_lt b (2 ^ d) then Some record { bits = b; depth = d } else None) → IsRead (AreNameParts bits depth) made
-parts-name bits depth b d made isb isd e = subst (λ (m : Option Name). IsRead (AreNameParts bits depth) m) (sym e) (by-test (nat_le d 16 && nat_lt b (2 ^ d)) refl)
+pub parts-name : (bits depth : List ℕ) (b d : ℕ) (made : Option Name) → IsNumber bits b → IsBelow 17 depth d →
+    made ≡ (if nat_le d 16 && nat_lt b (2 ^ d) then Some record { bits = b; depth = d } else None) → IsRead (AreNameParts bits depth) made
+parts-name bits depth b d made isb isd e =
+    subst (λ (m : Option Name). IsRead (AreNameParts bits depth) m) (sym e) (by-test (nat_le d 16 && nat_lt b (2 ^ d)) refl)
   where
     by-test : (t : Bool) → (nat_le d 16 && nat_lt b (2 ^ d)) ≡ t → IsRead (AreNameParts bits depth) (if t then Some record { bits = b; depth = d } else None)
     by-test true h =
@@ -58,7 +61,8 @@ pub bits-hasno : (name : Name) → IsName name → HasNo 47 (decimal name.bits)
 bits-hasno name is = decimal-hasno 47 name.bits (inl (lit< tt)) (omega (arith, name-bits name is))
 
 -- the parts on both sides of the mark
-pub name-found : (word bits depth : List ℕ) (place : ℕ) (found : Option Name) → IsFound word 47 (Some place) → bits ≡ take place word → depth ≡ drop (place + 1) word → IsRead (AreNameParts bits depth) found → IsRead (IsNameWord word) found
+pub name-found : (word bits depth : List ℕ) (place : ℕ) (found : Option Name) → IsFound word 47 (Some place) → bits ≡ take place word →
+    depth ≡ drop (place + 1) word → IsRead (AreNameParts bits depth) found → IsRead (IsNameWord word) found
 name-found word bits depth place (Some name) f a b is =
     let e : word ≡ bits ++ 47 ∷ depth = rw (a, b) f.1 in
     (e ∙ rw (is.0, is.1) refl, is.2)

@@ -9,7 +9,8 @@ use Rattle.dds_script.specs.Reading.{IsNumber, IsValueWord}
 use Rattle.dds_script.specs.Text.{name_text, brick_text, list_text}
 use Rattle.dds_script.specs.Words.{word, value_text}
 use Rattle.dds_script.specs.declared.form.Form.{Form}
-use Rattle.dds_script.specs.declared.form.Form.TheVariants.{Blank, Cluster, Leaf, Old, Get, Put, Remove, Swap, Stop, Join, Split, Fifo, Newest, Seed, Events, Quiet, Post, Take, Show}
+use Rattle.dds_script.specs.declared.form.Form.TheVariants.{Blank, Cluster, Leaf, Old, Get, Put, Remove, Swap, Stop, Join, Split, Fifo}
+use Rattle.dds_script.specs.declared.form.Form.TheVariants.{Newest, Seed, Events, Quiet, Post, Take, Show}
 use Rattle.dds_script.specs.declared.line.Line.{Line}
 use Rattle.dds_script.specs.declared.line.Line.TheVariants as line
 use Rattle.dds_script.specs.declared.line.Picker.{Picker}

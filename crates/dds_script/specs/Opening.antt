@@ -32,7 +32,13 @@ opening_leaf number name list =
 -- the stale leaf of this number at a library
 abbrev pub stale_leaf : ℕ → ℕ → Name → List ℕ → Leaf
 stale_leaf library number name list =
-    record { name = name; epoch = 0; stamp = record { maker = 64 + library; count = number }; prev = record { maker = 64 + library; count = number }; list = list }
+    record {
+      name = name;
+      epoch = 0;
+      stamp = record { maker = 64 + library; count = number };
+      prev = record { maker = 64 + library; count = number };
+      list = list;
+    }
 
 -- how many of the stale leaves are the library's
 abbrev pub stale_at : ℕ → List Leaf → ℕ

@@ -34,7 +34,13 @@ impl Model for Opening {
 
     ghost view = { λ a. record { bricks = a.ranges.bricks; libraries = a.ranges.libraries; callers = a.ranges.callers; leaves = a.leaves; old = a.old } };
 
-    ghost invariant = { λ a. IsOpening record { bricks = a.ranges.bricks; libraries = a.ranges.libraries; callers = a.ranges.callers; leaves = a.leaves; old = a.old } };
+    ghost invariant = { λ a. IsOpening record {
+      bricks = a.ranges.bricks;
+      libraries = a.ranges.libraries;
+      callers = a.ranges.callers;
+      leaves = a.leaves;
+      old = a.old;
+    } };
 }
 
 impl Opening {

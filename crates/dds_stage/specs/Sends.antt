@@ -24,7 +24,8 @@ Sends sends old [] new all = (new ≡ old) × (all ≡ [])
 Sends sends old (event ∷ events) new all = SentFirst sends (λ middle rest. Sends sends middle events new rest) old event all
 
 -- the composition of two stages' meanings: what the first sends of an event, and what the second sends of that
-pub record Composed {A B E M T : Type 0} (first : A → E → A → List M → Type 0) (second : B → M → B → List T → Type 0) (a : A) (b : B) (event : E) (a' : A) (b' : B) (before after : List T) : Type 0 where
+pub record Composed {A B E M T : Type 0} (first : A → E → A → List M → Type 0) (second : B → M → B → List T → Type 0) (a : A) (b : B) (event : E) (a' : A)
+    (b' : B) (before after : List T) : Type 0 where
   pub between : List M
   pub sent : List T
   pub of_first : first a event a' between
@@ -44,7 +45,8 @@ pub record AddedOne {S E T : Type 0} (sends : S → E → S → List T → Type 
   pub added : after ≡ before ++ sent
 
 -- some of the events were taken: whatever the rest sends from now on, the whole sends that behind what was sent so far
-pub record SentSoFar {S E T : Type 0} (sends : S → E → S → List T → Type 0) (old : S) (events : List E) (now : S) (rest : List E) (before after : List T) : Type 0 where
+pub record SentSoFar {S E T : Type 0} (sends : S → E → S → List T → Type 0) (old : S) (events : List E) (now : S) (rest : List E)
+    (before after : List T) : Type 0 where
   pub sent : List T
   pub added : after ≡ before ++ sent
   pub whole : (new : S) (more : List T) → Sends sends now rest new more → Sends sends old events new (sent ++ more)

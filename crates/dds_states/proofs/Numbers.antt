@@ -9,6 +9,8 @@ numbers-next b n f h =
     rw e (ap (λ k. (f + n) ∷ numbers_from (b - (n + 1)) k) s)
 
 -- one number more
-pub numbers-push : (list new whole : List ℕ) (b n f m : ℕ) → n < b → list ++ numbers_from (b - n) (f + n) ≡ whole → new ≡ list ++ m ∷ [] → m ≡ f + n → new ++ numbers_from (b - (n + 1)) (f + (n + 1)) ≡ whole
+pub numbers-push : (list new whole : List ℕ) (b n f m : ℕ) → n < b → list ++ numbers_from (b - n) (f + n) ≡ whole → new ≡ list ++ m ∷ [] → m ≡ f + n →
+    new ++ numbers_from (b - (n + 1)) (f + (n + 1)) ≡ whole
 numbers-push list new whole b n f m h so is same =
-    ap (λ xs. xs ++ numbers_from (b - (n + 1)) (f + (n + 1))) (is ∙ ap (λ k. list ++ k ∷ []) same) ∙ append_assoc list ((f + n) ∷ []) (numbers_from (b - (n + 1)) (f + (n + 1))) ∙ ap (λ xs. list ++ xs) (sym (numbers-next b n f h)) ∙ so
+    ap (λ xs. xs ++ numbers_from (b - (n + 1)) (f + (n + 1))) (is ∙ ap (λ k. list ++ k ∷ []) same)
+    ∙ append_assoc list ((f + n) ∷ []) (numbers_from (b - (n + 1)) (f + (n + 1))) ∙ ap (λ xs. list ++ xs) (sym (numbers-next b n f h)) ∙ so

@@ -14,7 +14,8 @@ use dds_maps::maps::Maps;
 /// The most times that a call looks for a newer map.
 pub const RETRIES: u8 = 3;
 
-/// How far an open call is. `leaf` is the leaf that its attempt used. A get waits for the brick that it asked. An update waits for votes of its members; or it is
+/// How far an open call is. `leaf` is the leaf that its attempt used. A get waits for the brick that it asked. An
+/// update waits for votes of its members; or it is
 /// decided, waits until they have applied it, and keeps the flag that the first of them told; or a member voted no, and
 /// it waits until all have aborted. A call whose map may be stale waits for the leaves of all bricks, and is answered
 /// Again with `met` where none is told.

@@ -1,5 +1,6 @@
 -- The tables of a store.
-use Rattle.std.proofs.Common.{ℕ, zero, suc, ◌≡◌, ◌+◌, ◌<◌, ◌≤◌, cond, Bool, true, false, List, [], ◌∷◌, ◌++◌, length, get_or, set, Option, Some, None, refl, sym, ap, subst, ◌∙◌, arith}
+use Rattle.std.proofs.Common.{ℕ, zero, suc, ◌≡◌, ◌+◌, ◌<◌, ◌≤◌, cond, Bool, true, false, List, [], ◌∷◌, ◌++◌, length, get_or, set, Option}
+use Rattle.std.proofs.Common.{Some, None, refl, sym, ap, subst, ◌∙◌, arith}
 use Rattle.std.proofs.Math.ListN.{length-set}
 use Rattle.std.proofs.Common.{length-append}
 use Rattle.std.specs.List.{remove}
@@ -36,7 +37,8 @@ table-kept a b t h k = record {
 pub content-kept : (a b : Pages) (t : Chains) → IsIndex t → IsTable a t → Kept a b (λ n. table_uses n t) → content b t.root ≡ content a t.root
 content-kept a b t x h k = same-content _ _ (λ q.
     content-found b t q x (table-kept a b t h k)
-    ∙ found-kept a b (get_or t.buckets.items (bucket_no q) []) q (h.chains (bucket_no q)) (λ n used. k n (let w = bucket-within n t.buckets.items (bucket_no q) in omega (arith, w, used)))
+    ∙ found-kept a b (get_or t.buckets.items (bucket_no q) []) q (h.chains (bucket_no q))
+    (λ n used. k n (let w = bucket-within n t.buckets.items (bucket_no q) in omega (arith, w, used)))
     ∙ sym (content-found a t q x h))
 
 pub index-at : (tables : List Chains) (i : ℕ) (t : Chains) → AllIndex tables → i < length tables → t ≡ get_or tables i t → IsIndex t
@@ -54,7 +56,8 @@ uses-at n [] i t below e = absurd (omega arith)
 uses-at n (x ∷ xs) zero t below e = let k = ap (table_uses n) e in omega arith
 uses-at n (x ∷ xs) (suc i) t below e = let k = uses-at n xs i t (omega arith) e in omega arith
 
-pub uses-set : (n : ℕ) (tables : List Chains) (i : ℕ) (t now : Chains) → i < length tables → t ≡ get_or tables i t → tables_use n (set tables i now) + table_uses n t ≡ tables_use n tables + table_uses n now
+pub uses-set : (n : ℕ) (tables : List Chains) (i : ℕ) (t now : Chains) → i < length tables → t ≡ get_or tables i t →
+    tables_use n (set tables i now) + table_uses n t ≡ tables_use n tables + table_uses n now
 uses-set n [] i t now below e = absurd (omega arith)
 uses-set n (x ∷ xs) zero t now below e = let k = ap (table_uses n) e in omega arith
 uses-set n (x ∷ xs) (suc i) t now below e = let k = uses-set n xs i t now (omega arith) e in omega arith
@@ -65,7 +68,8 @@ index-set (y ∷ ys) zero now h x = (x, h.1)
 index-set (y ∷ ys) (suc i) now h x = (h.0, index-set ys i now h.1 x)
 
 -- tables whose pages didn't change
-pub all-kept : (a b : Pages) (tables : List Chains) → AllIndex tables → AllTables a tables → Kept a b (λ n. tables_use n tables) → AllTables b tables × (maps_of b (named tables) ≡ maps_of a (named tables))
+pub all-kept : (a b : Pages) (tables : List Chains) → AllIndex tables → AllTables a tables → Kept a b (λ n. tables_use n tables) →
+    AllTables b tables × (maps_of b (named tables) ≡ maps_of a (named tables))
 all-kept a b [] x h k = (tt, refl)
 all-kept a b (t ∷ ts) x h k =
     let kt : Kept a b (λ n. table_uses n t) = λ n used. k n (omega arith) in
@@ -82,54 +86,69 @@ is-name a b h = let e = names-are a b h in λ i. record { bits = e.0 i; depth = 
 -- the table of a name, and its map
 pub name-at : (tables : List Chains) (name : Name) (i : ℕ) (t : Chains) → place_named (named tables) name ≡ Some i → t ≡ get_or tables i t → t.name ≡ name
 name-at [] name i t h e = cc
-name-at (x ∷ xs) name zero t h e = (elim (same_name x.name name) as (λ u. same_name x.name name ≡ u → cond u (Some 0) (option_map suc (place_named (named xs) name)) ≡ Some 0 → t.name ≡ name) [
-  | true ↦ λ u h. ap (λ (y : Chains). y.name) e ∙ is-name x.name name u
-  | false ↦ λ u h. absurd (later (place_named (named xs) name) h)
-]) refl h
-name-at (x ∷ xs) name (suc i) t h e = (elim (same_name x.name name) as (λ u. same_name x.name name ≡ u → cond u (Some 0) (option_map suc (place_named (named xs) name)) ≡ Some (suc i) → t.name ≡ name) [
-  | true ↦ λ u h. absurd (first-not h)
-  | false ↦ λ u h. name-at xs name i t (before (place_named (named xs) name) i h) e
-]) refl h
+name-at (x ∷ xs) name zero t h e = (elim (same_name x.name name) as (λ u. same_name x.name name ≡ u →
+    cond u (Some 0) (option_map suc (place_named (named xs) name)) ≡ Some 0 → t.name ≡ name) [
+      | true ↦ λ u h. ap (λ (y : Chains). y.name) e ∙ is-name x.name name u
+      | false ↦ λ u h. absurd (later (place_named (named xs) name) h)
+    ]) refl h
+name-at (x ∷ xs) name (suc i) t h e = (elim (same_name x.name name) as (λ u. same_name x.name name ≡ u →
+    cond u (Some 0) (option_map suc (place_named (named xs) name)) ≡ Some (suc i) → t.name ≡ name) [
+      | true ↦ λ u h. absurd (first-not h)
+      | false ↦ λ u h. name-at xs name i t (before (place_named (named xs) name) i h) e
+    ]) refl h
 
-pub map-at : (a : Pages) (tables : List Chains) (name : Name) (i : ℕ) (t : Chains) → place_named (named tables) name ≡ Some i → t ≡ get_or tables i t → map_named (maps_of a (named tables)) name ≡ content a t.root
+pub map-at : (a : Pages) (tables : List Chains) (name : Name) (i : ℕ) (t : Chains) → place_named (named tables) name ≡ Some i → t ≡ get_or tables i t →
+    map_named (maps_of a (named tables)) name ≡ content a t.root
 map-at a [] name i t h e = cc
-map-at a (x ∷ xs) name zero t h e = (elim (same_name x.name name) as (λ u. same_name x.name name ≡ u → cond u (Some 0) (option_map suc (place_named (named xs) name)) ≡ Some 0 → cond u (content a x.root) (map_named (maps_of a (named xs)) name) ≡ content a t.root) [
-  | true ↦ λ u h. ap (λ (y : Chains). content a y.root) (sym e)
-  | false ↦ λ u h. absurd (later (place_named (named xs) name) h)
-]) refl h
-map-at a (x ∷ xs) name (suc i) t h e = (elim (same_name x.name name) as (λ u. same_name x.name name ≡ u → cond u (Some 0) (option_map suc (place_named (named xs) name)) ≡ Some (suc i) → cond u (content a x.root) (map_named (maps_of a (named xs)) name) ≡ content a t.root) [
-  | true ↦ λ u h. absurd (first-not h)
-  | false ↦ λ u h. map-at a xs name i t (before (place_named (named xs) name) i h) e
-]) refl h
+map-at a (x ∷ xs) name zero t h e = (elim (same_name x.name name) as (λ u. same_name x.name name ≡ u →
+    cond u (Some 0) (option_map suc (place_named (named xs) name)) ≡ Some 0 →
+    cond u (content a x.root) (map_named (maps_of a (named xs)) name) ≡ content a t.root) [
+      | true ↦ λ u h. ap (λ (y : Chains). content a y.root) (sym e)
+      | false ↦ λ u h. absurd (later (place_named (named xs) name) h)
+    ]) refl h
+map-at a (x ∷ xs) name (suc i) t h e = (elim (same_name x.name name) as (λ u. same_name x.name name ≡ u →
+    cond u (Some 0) (option_map suc (place_named (named xs) name)) ≡ Some (suc i) →
+    cond u (content a x.root) (map_named (maps_of a (named xs)) name) ≡ content a t.root) [
+      | true ↦ λ u h. absurd (first-not h)
+      | false ↦ λ u h. map-at a xs name i t (before (place_named (named xs) name) i h) e
+    ]) refl h
 
 -- one table was changed, and no page of the others
 record SetAt (a b : Pages) (tables : List Chains) (name : Name) (i : ℕ) (now : Chains) (m : Map) : Type 0 where
   pub all : AllTables b (set tables i now)
   pub maps : maps_of b (named (set tables i now)) ≡ with_map (maps_of a (named tables)) name m
 
-set-at : (a b : Pages) (free : List ℕ) (fresh : ℕ) (tables : List Chains) (name : Name) (i : ℕ) (t now : Chains) (m : Map) → AllIndex tables → AllTables a tables → i < length tables → t ≡ get_or tables i t → place_named (named tables) name ≡ Some i → now.name ≡ t.name → IsTable b now → content b now.root ≡ m →
-    ((n : ℕ) → vacant n free fresh + tables_use n tables ≤ 1) → ((n : ℕ) → vacant n free fresh ≡ 0 → table_uses n t ≡ 0 → page_at b n ≡ page_at a n) → SetAt a b tables name i now m
+set-at : (a b : Pages) (free : List ℕ) (fresh : ℕ) (tables : List Chains) (name : Name) (i : ℕ) (t now : Chains) (m : Map) → AllIndex tables →
+    AllTables a tables → i < length tables → t ≡ get_or tables i t → place_named (named tables) name ≡ Some i → now.name ≡ t.name → IsTable b now →
+    content b now.root ≡ m →
+    ((n : ℕ) → vacant n free fresh + tables_use n tables ≤ 1) → ((n : ℕ) → vacant n free fresh ≡ 0 → table_uses n t ≡ 0 → page_at b n ≡ page_at a n) →
+    SetAt a b tables name i now m
 set-at a b free fresh [] name i t now m x h below e p nm tab c single kept = absurd (omega arith)
 set-at a b free fresh (y ∷ ys) name zero t now m x h below e p nm tab c single kept =
     let r = all-kept a b ys x.1 h.1 (λ n used. kept n (omega (arith, single n, used)) (let k = ap (table_uses n) e in omega (arith, k, single n, used))) in
     record {
       all = (tab, r.0);
-      maps = (elim (same_name y.name name) as (λ u. same_name y.name name ≡ u → cond u (Some 0) (option_map suc (place_named (named ys) name)) ≡ Some 0 → (now.name, content b now.root) ∷ maps_of b (named ys) ≡ cond u ((y.name, m) ∷ maps_of a (named ys)) ((y.name, content a y.root) ∷ with_map (maps_of a (named ys)) name m)) [
-        | true ↦ λ u p. let same_names : now.name ≡ y.name = nm ∙ ap (λ (z : Chains). z.name) e in λ j. (same_names j, c j) ∷ r.1 j
-        | false ↦ λ u p. absurd (later (place_named (named ys) name) p)
-      ]) refl p;
+      maps = (elim (same_name y.name name) as (λ u. same_name y.name name ≡ u → cond u (Some 0) (option_map suc (place_named (named ys) name)) ≡ Some 0 →
+          (now.name, content b now.root) ∷ maps_of b (named ys)
+          ≡ cond u ((y.name, m) ∷ maps_of a (named ys)) ((y.name, content a y.root) ∷ with_map (maps_of a (named ys)) name m)) [
+            | true ↦ λ u p. let same_names : now.name ≡ y.name = nm ∙ ap (λ (z : Chains). z.name) e in λ j. (same_names j, c j) ∷ r.1 j
+            | false ↦ λ u p. absurd (later (place_named (named ys) name) p)
+          ]) refl p;
     }
 set-at a b free fresh (y ∷ ys) name (suc i) t now m x h below e p nm tab c single kept =
     let used_t : (n : ℕ) → table_uses n t ≤ tables_use n ys = λ n. uses-at n ys i t (omega arith) e in
     let ky : Kept a b (λ n. table_uses n y) = λ n used. kept n (omega (arith, single n, used)) (let k = used_t n in omega (arith, k, single n, used)) in
     let cy = content-kept a b y x.0 h.0 ky in
-    (elim (same_name y.name name) as (λ u. same_name y.name name ≡ u → cond u (Some 0) (option_map suc (place_named (named ys) name)) ≡ Some (suc i) → SetAt a b (y ∷ ys) name (suc i) now m) [
+    (elim (same_name y.name name) as (λ u. same_name y.name name ≡ u → cond u (Some 0) (option_map suc (place_named (named ys) name)) ≡ Some (suc i) →
+    SetAt a b (y ∷ ys) name (suc i) now m) [
       | true ↦ λ u p. absurd (first-not p)
       | false ↦ λ u p.
-          let r = set-at a b free fresh ys name i t now m x.1 h.1 (omega arith) e (before (place_named (named ys) name) i p) nm tab c (λ n. omega (arith, single n)) kept in
+          let r = set-at a b free fresh ys name i t now m x.1 h.1 (omega arith) e (before (place_named (named ys) name) i p) nm tab c
+          (λ n. omega (arith, single n)) kept in
           record {
             all = (table-kept a b y h.0 ky, r.all);
-            maps = (λ j. (y.name, cy j) ∷ r.maps j) ∙ sym (ap (λ (v : Bool). cond v ((y.name, m) ∷ maps_of a (named ys)) ((y.name, content a y.root) ∷ with_map (maps_of a (named ys)) name m)) u);
+            maps = (λ j. (y.name, cy j) ∷ r.maps j) ∙
+                sym (ap (λ (v : Bool). cond v ((y.name, m) ∷ maps_of a (named ys)) ((y.name, content a y.root) ∷ with_map (maps_of a (named ys)) name m)) u);
           }
     ]) refl p
 
@@ -144,25 +163,34 @@ told-back None now h b is = let e = h refl in absurd (none-some now b e is)
 told-back (Some a) now h b is = (a, refl)
 
 -- and it is a store
-pub store-after : {dropped : List Chains} {room : ℕ} (told0 told1 : Option Pages) (free0 free1 : List ℕ) (fresh0 fresh1 : ℕ) (tables new : List Chains) (name : Name) (i : ℕ) (t now : Chains) (change : Pages → Map) → IsStore told0 free0 fresh0 tables dropped room → i < length tables → t ≡ get_or tables i t → place_named (named tables) name ≡ Some i → new ≡ set tables i now → now.name ≡ t.name → IsIndex now →
-    ((n : ℕ) → vacant n free1 fresh1 + table_uses n now ≡ vacant n free0 fresh0 + table_uses n t) → ((a : Pages) → told0 ≡ Some a → IsTable a t → Changed a free0 fresh0 t told1 now (change a)) → (told0 ≡ None → told1 ≡ None) → IsStore told1 free1 fresh1 new dropped room
+pub store-after : {dropped : List Chains} {room : ℕ} (told0 told1 : Option Pages) (free0 free1 : List ℕ) (fresh0 fresh1 : ℕ) (tables new : List Chains)
+    (name : Name) (i : ℕ) (t now : Chains) (change : Pages → Map) → IsStore told0 free0 fresh0 tables dropped room → i < length tables →
+    t ≡ get_or tables i t → place_named (named tables) name ≡ Some i → new ≡ set tables i now → now.name ≡ t.name → IsIndex now →
+    ((n : ℕ) → vacant n free1 fresh1 + table_uses n now ≡ vacant n free0 fresh0 + table_uses n t) →
+    ((a : Pages) → told0 ≡ Some a → IsTable a t → Changed a free0 fresh0 t told1 now (change a)) → (told0 ≡ None → told1 ≡ None) →
+    IsStore told1 free1 fresh1 new dropped room
 store-after told0 told1 free0 free1 fresh0 fresh1 tables new name i t now change s below e p n nm x number changed back = record {
   room = let l : length (set tables i now) ≡ length tables = length-set {A = Chains} _ _ _ in let k = ap length n in omega (arith, l, k, s.room);
-  balance = λ q. let u = uses-set q tables i t now below e in let k = s.balance q in let m : tables_use q new ≡ tables_use q (set tables i now) = ap (tables_use q) n in omega (arith, u, k, number q, m);
+  balance = λ q. let u = uses-set q tables i t now below e in let k = s.balance q in
+      let m : tables_use q new ≡ tables_use q (set tables i now) = ap (tables_use q) n in omega (arith, u, k, number q, m);
   index = subst AllIndex (sym n) (index-set tables i now s.index x);
   stored = λ b is.
       let o = told-back told0 told1 back b is in
       let h = s.stored o.0 o.1 in
       let w = changed o.0 o.1 (table-at o.0 tables i t h below e) in
-      let r = set-at o.0 w.b free0 fresh0 tables name i t now (change o.0) s.index h below e p nm w.table w.binds (λ q. let k = s.balance q in omega (arith, k)) w.kept in
+      let r = set-at o.0 w.b free0 fresh0 tables name i t now (change o.0) s.index h below e p nm w.table w.binds (λ q. let k = s.balance q in
+      omega (arith, k)) w.kept in
       subst (λ (z : Pages). AllTables z new) (same-pages told1 w.b b w.is_told is) (subst (AllTables w.b) (sym n) r.all);
 }
 
-pub changed-named : (a : Pages) (free : List ℕ) (fresh : ℕ) (t : Chains) (told : Option Pages) (now : Chains) (tables : List Chains) (name : Name) (i : ℕ) (f : Map → Map) → place_named (named tables) name ≡ Some i → t ≡ get_or tables i t → Changed a free fresh t told now (f (content a t.root)) →
+pub changed-named : (a : Pages) (free : List ℕ) (fresh : ℕ) (t : Chains) (told : Option Pages) (now : Chains) (tables : List Chains) (name : Name) (i : ℕ)
+    (f : Map → Map) → place_named (named tables) name ≡ Some i → t ≡ get_or tables i t → Changed a free fresh t told now (f (content a t.root)) →
     Changed a free fresh t told now (f (map_named (maps_of a (named tables)) name))
 changed-named a free fresh t told now tables name i f p e w = subst (λ (m : Map). Changed a free fresh t told now (f m)) (sym (map-at a tables name i t p e)) w
 
-pub room-named : (a : Pages) (tables : List Chains) (name : Name) (i : ℕ) (t : Chains) (key : ℕ) → place_named (named tables) name ≡ Some i → t ≡ get_or tables i t → IsIndex t → IsTable a t → (contains_key (map_named (maps_of a (named tables)) name) key ≡ false → len (map_named (maps_of a (named tables)) name) < 16384) →
+pub room-named : (a : Pages) (tables : List Chains) (name : Name) (i : ℕ) (t : Chains) (key : ℕ) → place_named (named tables) name ≡ Some i →
+    t ≡ get_or tables i t → IsIndex t → IsTable a t →
+    (contains_key (map_named (maps_of a (named tables)) name) key ≡ false → len (map_named (maps_of a (named tables)) name) < 16384) →
     contains_key (content a t.root) key ≡ false → t.len < 16384
 room-named a tables name i t key p e x tab room new =
     let m = map-at a tables name i t p e in
@@ -172,10 +200,13 @@ room-named a tables name i t key p e x tab room new =
     omega (arith, r, l, k)
 
 -- the store's pages after one table was changed
-pub holds-after : {dropped : List Chains} {room : ℕ} (told0 told1 : Option Pages) (free0 free1 : List ℕ) (fresh0 fresh1 : ℕ) (tables : List Chains) (name : Name) (i : ℕ) (t now : Chains) (m : Map) → IsStore told0 free0 fresh0 tables dropped room → i < length tables → t ≡ get_or tables i t → place_named (named tables) name ≡ Some i → now.name ≡ t.name →
+pub holds-after : {dropped : List Chains} {room : ℕ} (told0 told1 : Option Pages) (free0 free1 : List ℕ) (fresh0 fresh1 : ℕ) (tables : List Chains)
+    (name : Name) (i : ℕ) (t now : Chains) (m : Map) → IsStore told0 free0 fresh0 tables dropped room → i < length tables → t ≡ get_or tables i t →
+    place_named (named tables) name ≡ Some i → now.name ≡ t.name →
     (a : Pages) → told0 ≡ Some a → Changed a free0 fresh0 t told1 now m → Holds told1 (named (set tables i now)) (with_map (maps_of a (named tables)) name m)
 holds-after told0 told1 free0 free1 fresh0 fresh1 tables name i t now m s below e p nm a is w =
-    let r = set-at a w.b free0 fresh0 tables name i t now m s.index (s.stored a is) below e p nm w.table w.binds (λ q. let k = s.balance q in omega (arith, k)) w.kept in
+    let r = set-at a w.b free0 fresh0 tables name i t now m s.index (s.stored a is) below e p nm w.table w.binds (λ q. let k = s.balance q in
+    omega (arith, k)) w.kept in
     record { pages = w.b; is_told = w.is_told; are = r.maps }
 
 -- a table was added behind the others
@@ -195,11 +226,15 @@ all-push : (a : Pages) (tables : List Chains) (t : Chains) → AllTables a table
 all-push a [] t h x = (x, tt)
 all-push a (y ∷ ys) t h x = (h.0, all-push a ys t h.1 x)
 
-kept-made : {dropped : List Chains} {room : ℕ} (a b : Pages) (told : Option Pages) (free : List ℕ) (fresh : ℕ) (tables : List Chains) → IsStore told free fresh tables dropped room → KeepsUsed a b free fresh → Kept a b (λ n. tables_use n tables)
+kept-made : {dropped : List Chains} {room : ℕ} (a b : Pages) (told : Option Pages) (free : List ℕ) (fresh : ℕ) (tables : List Chains) →
+    IsStore told free fresh tables dropped room → KeepsUsed a b free fresh → Kept a b (λ n. tables_use n tables)
 kept-made a b told free fresh tables s k = λ n used. k n (let q = s.balance n in omega (arith, q, used))
 
-pub store-made : {dropped : List Chains} {room0 : ℕ} (room : ℕ) (told0 told1 : Option Pages) (free0 free1 : List ℕ) (fresh0 fresh1 : ℕ) (tables new : List Chains) (t : Chains) → IsStore told0 free0 fresh0 tables dropped room0 → new ≡ tables ++ t ∷ [] → IsIndex t → ((n : ℕ) → vacant n free1 fresh1 + table_uses n t ≡ vacant n free0 fresh0) →
-    ((a : Pages) → told0 ≡ Some a → Made a free0 fresh0 told1 t) → (told0 ≡ None → told1 ≡ None) → length tables + 1 + length dropped ≤ room → IsStore told1 free1 fresh1 new dropped room
+pub store-made : {dropped : List Chains} {room0 : ℕ} (room : ℕ) (told0 told1 : Option Pages) (free0 free1 : List ℕ) (fresh0 fresh1 : ℕ)
+    (tables new : List Chains) (t : Chains) → IsStore told0 free0 fresh0 tables dropped room0 → new ≡ tables ++ t ∷ [] → IsIndex t →
+    ((n : ℕ) → vacant n free1 fresh1 + table_uses n t ≡ vacant n free0 fresh0) →
+    ((a : Pages) → told0 ≡ Some a → Made a free0 fresh0 told1 t) → (told0 ≡ None → told1 ≡ None) → length tables + 1 + length dropped ≤ room →
+    IsStore told1 free1 fresh1 new dropped room
 store-made room told0 told1 free0 free1 fresh0 fresh1 tables new t s e x number made hidden fits = record {
   room = let l = ap length e in let k = length-append tables (t ∷ []) in omega (arith, l, k, fits);
   balance = λ n. let u = uses-push n tables t in let k = s.balance n in let m = ap (tables_use n) e in omega (arith, u, k, number n, m);
@@ -211,16 +246,20 @@ store-made room told0 told1 free0 free1 fresh0 fresh1 tables new t s e x number 
       subst (λ (z : Pages). AllTables z new) (same-pages told1 w.b b w.is_told is) (subst (AllTables w.b) (sym e) (all-push w.b tables t r.0 w.table));
 }
 
-pub holds-made : {dropped : List Chains} {room : ℕ} (told0 told1 : Option Pages) (free0 : List ℕ) (fresh0 : ℕ) (tables new : List Chains) (t : Chains) (name : Name) → IsStore told0 free0 fresh0 tables dropped room → new ≡ tables ++ t ∷ [] → t.name ≡ name → (a : Pages) → told0 ≡ Some a → Made a free0 fresh0 told1 t → Holds told1 (named new) (maps_of a (named tables) ++ (name, empty) ∷ [])
+pub holds-made : {dropped : List Chains} {room : ℕ} (told0 told1 : Option Pages) (free0 : List ℕ) (fresh0 : ℕ) (tables new : List Chains) (t : Chains)
+    (name : Name) → IsStore told0 free0 fresh0 tables dropped room → new ≡ tables ++ t ∷ [] → t.name ≡ name → (a : Pages) → told0 ≡ Some a →
+    Made a free0 fresh0 told1 t → Holds told1 (named new) (maps_of a (named tables) ++ (name, empty) ∷ [])
 holds-made told0 told1 free0 fresh0 tables new t name s e nm a is w =
     let r = all-kept a w.b tables s.index (s.stored a is) (kept-made a w.b told0 free0 fresh0 tables s w.kept) in
     record {
       pages = w.b;
       is_told = w.is_told;
-      are = ap (λ (ts : List Chains). maps_of w.b (named ts)) e ∙ ap (maps_of w.b) (names-push tables t) ∙ maps-push w.b (named tables) (t.name, t.root) ∙ (λ j. r.1 j ++ (nm j, w.binds j) ∷ []);
+      are = ap (λ (ts : List Chains). maps_of w.b (named ts)) e ∙ ap (maps_of w.b) (names-push tables t) ∙ maps-push w.b (named tables) (t.name, t.root)
+          ∙ (λ j. r.1 j ++ (nm j, w.binds j) ∷ []);
     }
 
-pub named-set : (tables : List Chains) (i : ℕ) (t now : Chains) → i < length tables → t ≡ get_or tables i t → now.name ≡ t.name → now.root ≡ t.root → named (set tables i now) ≡ named tables
+pub named-set : (tables : List Chains) (i : ℕ) (t now : Chains) → i < length tables → t ≡ get_or tables i t → now.name ≡ t.name → now.root ≡ t.root →
+    named (set tables i now) ≡ named tables
 named-set [] i t now below e nm r = absurd (omega arith)
 named-set (x ∷ xs) zero t now below e nm r =
     let n : now.name ≡ x.name = nm ∙ ap (λ (z : Chains). z.name) e in
@@ -232,11 +271,14 @@ names-all : (tables : List Chains) (t : Chains) → names (named (tables ++ t �
 names-all [] t = refl
 names-all (x ∷ xs) t = ap (λ (ns : List Name). x.name ∷ ns) (names-all xs t)
 
-pub names-more : (tables new : List Chains) (t : Chains) (name : Name) → new ≡ tables ++ t ∷ [] → t.name ≡ name → names (named new) ≡ names (named tables) ++ name ∷ []
+pub names-more : (tables new : List Chains) (t : Chains) (name : Name) → new ≡ tables ++ t ∷ [] → t.name ≡ name →
+    names (named new) ≡ names (named tables) ++ name ∷ []
 names-more tables new t name e nm = ap (λ (ts : List Chains). names (named ts)) e ∙ names-all tables t ∙ ap (λ (n : Name). names (named tables) ++ n ∷ []) nm
 
 -- a dropped table's pages were taken back
-pub store-reclaimed : {told0 : Option Pages} {free0 : List ℕ} {fresh0 : ℕ} {tables dropped : List Chains} {room : ℕ} (told : Option Pages) (free : List ℕ) (fresh : ℕ) (now : List Chains) (room_now : ℕ) → IsStore told0 free0 fresh0 tables dropped room → told ≡ told0 → ((n : ℕ) → vacant n free fresh + tables_use n now ≡ vacant n free0 fresh0 + tables_use n dropped) → length now ≤ length dropped → room ≤ room_now →
+pub store-reclaimed : {told0 : Option Pages} {free0 : List ℕ} {fresh0 : ℕ} {tables dropped : List Chains} {room : ℕ} (told : Option Pages) (free : List ℕ)
+    (fresh : ℕ) (now : List Chains) (room_now : ℕ) → IsStore told0 free0 fresh0 tables dropped room → told ≡ told0 →
+    ((n : ℕ) → vacant n free fresh + tables_use n now ≡ vacant n free0 fresh0 + tables_use n dropped) → length now ≤ length dropped → room ≤ room_now →
     IsStore told free fresh tables now room_now
 store-reclaimed told free fresh now room_now s e number shorter roomy = record {
   balance = λ n. let k = s.balance n in omega (arith, k, number n);
@@ -246,7 +288,8 @@ store-reclaimed told free fresh now room_now s e number shorter roomy = record {
 }
 
 -- a table was dropped
-uses-out : (n : ℕ) (tables : List Chains) (i : ℕ) (t : Chains) → i < length tables → t ≡ get_or tables i t → tables_use n (remove tables i) + table_uses n t ≡ tables_use n tables
+uses-out : (n : ℕ) (tables : List Chains) (i : ℕ) (t : Chains) → i < length tables → t ≡ get_or tables i t →
+    tables_use n (remove tables i) + table_uses n t ≡ tables_use n tables
 uses-out n [] i t below e = absurd (omega arith)
 uses-out n (x ∷ xs) zero t below e = let k = ap (table_uses n) e in omega arith
 uses-out n (x ∷ xs) (suc i) t below e = let k = uses-out n xs i t (omega arith) e in omega arith
@@ -268,24 +311,33 @@ tables-less a [] (suc i) h = tt
 tables-less a (x ∷ xs) zero h = h.1
 tables-less a (x ∷ xs) (suc i) h = (h.0, tables-less a xs i h.1)
 
-pub store-dropped : {told : Option Pages} {free : List ℕ} {fresh : ℕ} {tables dropped : List Chains} {room : ℕ} (i : ℕ) (t : Chains) (new now : List Chains) (room_now : ℕ) → IsStore told free fresh tables dropped room → i < length tables → t ≡ get_or tables i t → new ≡ remove tables i → now ≡ dropped ++ t ∷ [] → room ≤ room_now → IsStore told free fresh new now room_now
+pub store-dropped : {told : Option Pages} {free : List ℕ} {fresh : ℕ} {tables dropped : List Chains} {room : ℕ} (i : ℕ) (t : Chains) (new now : List Chains)
+    (room_now : ℕ) → IsStore told free fresh tables dropped room → i < length tables → t ≡ get_or tables i t → new ≡ remove tables i →
+    now ≡ dropped ++ t ∷ [] → room ≤ room_now → IsStore told free fresh new now room_now
 store-dropped {tables = tables} {dropped = dropped} i t new now room_now s below e n m roomy = record {
-  balance = λ q. let k = s.balance q in let u = uses-out q tables i t below e in let v = uses-push q dropped t in let x = ap (tables_use q) n in let y = ap (tables_use q) m in omega (arith, k, u, v, x, y);
+  balance = λ q. let k = s.balance q in let u = uses-out q tables i t below e in let v = uses-push q dropped t in let x = ap (tables_use q) n in
+      let y = ap (tables_use q) m in omega (arith, k, u, v, x, y);
   index = subst AllIndex (sym n) (index-less tables i s.index);
   stored = λ a is. subst (AllTables a) (sym n) (tables-less a tables i (s.stored a is));
-  room = let l = length-less tables i below in let x = ap length n in let y = ap length m in let z = length-append dropped (t ∷ []) in omega (arith, l, x, y, z, s.room, roomy);
+  room = let l = length-less tables i below in let x = ap length n in let y = ap length m in let z = length-append dropped (t ∷ []) in
+      omega (arith, l, x, y, z, s.room, roomy);
 }
 
-pub named-less : (tables : List Chains) (name : Name) (i : ℕ) → place_named (named tables) name ≡ Some i → named (remove tables i) ≡ without_table (named tables) name
+pub named-less : (tables : List Chains) (name : Name) (i : ℕ) → place_named (named tables) name ≡ Some i →
+    named (remove tables i) ≡ without_table (named tables) name
 named-less [] name i h = cc
-named-less (x ∷ xs) name zero h = (elim (same_name x.name name) as (λ u. same_name x.name name ≡ u → cond u (Some 0) (option_map suc (place_named (named xs) name)) ≡ Some 0 → named xs ≡ cond u (named xs) ((x.name, x.root) ∷ without_table (named xs) name)) [
-  | true ↦ λ u h. refl
-  | false ↦ λ u h. absurd (later (place_named (named xs) name) h)
-]) refl h
-named-less (x ∷ xs) name (suc i) h = (elim (same_name x.name name) as (λ u. same_name x.name name ≡ u → cond u (Some 0) (option_map suc (place_named (named xs) name)) ≡ Some (suc i) → (x.name, x.root) ∷ named (remove xs i) ≡ cond u (named xs) ((x.name, x.root) ∷ without_table (named xs) name)) [
-  | true ↦ λ u h. absurd (first-not h)
-  | false ↦ λ u h. ap (λ (ns : List Named). (x.name, x.root) ∷ ns) (named-less xs name i (before (place_named (named xs) name) i h))
-]) refl h
+named-less (x ∷ xs) name zero h = (elim (same_name x.name name) as (λ u. same_name x.name name ≡ u →
+    cond u (Some 0) (option_map suc (place_named (named xs) name)) ≡ Some 0 →
+    named xs ≡ cond u (named xs) ((x.name, x.root) ∷ without_table (named xs) name)) [
+      | true ↦ λ u h. refl
+      | false ↦ λ u h. absurd (later (place_named (named xs) name) h)
+    ]) refl h
+named-less (x ∷ xs) name (suc i) h = (elim (same_name x.name name) as (λ u. same_name x.name name ≡ u →
+    cond u (Some 0) (option_map suc (place_named (named xs) name)) ≡ Some (suc i) →
+    (x.name, x.root) ∷ named (remove xs i) ≡ cond u (named xs) ((x.name, x.root) ∷ without_table (named xs) name)) [
+      | true ↦ λ u h. absurd (first-not h)
+      | false ↦ λ u h. ap (λ (ns : List Named). (x.name, x.root) ∷ ns) (named-less xs name i (before (place_named (named xs) name) i h))
+    ]) refl h
 
 pub unless : (b : Bool) (P : Type 0) → P → Unless b P
 unless true P h = tt

@@ -1,5 +1,6 @@
 -- The walk through the pages of a table of version 1.
-use Rattle.std.specs.Prelude.{ℕ, zero, suc, ◌≡◌, ◌+◌, ◌-◌, ◌^◌, ◌==◌, ◌&&◌, IsTrue, Bool, true, false, not, if◌then◌else◌, Option, None, Some, Result, Ok, Err, List, [], ◌∷◌, ◌++◌, length, slice_index}
+use Rattle.std.specs.Prelude.{ℕ, zero, suc, ◌≡◌, ◌+◌, ◌-◌, ◌^◌, ◌==◌, ◌&&◌, IsTrue, Bool, true, false, not, if◌then◌else◌, Option, None}
+use Rattle.std.specs.Prelude.{Some, Result, Ok, Err, List, [], ◌∷◌, ◌++◌, length, slice_index}
 use Rattle.std.specs.List.{list_any}
 use Rattle.dds_disk.specs.Pages.{Pages, page_at}
 use Rattle.dds_base.specs.Name.{Name, covers}

@@ -17,7 +17,8 @@ KeysAreOf name m = (key : ℕ) → contains_key m key ≡ true → IsTrue (cover
 
 -- each pair of the whole map is in just one of two maps, and these have no other pairs
 pub record IsParted (whole low high : Map) : Type 0 where
-  pub once : (key : ℕ) (value : List ℕ) → get whole key ≡ Some value → ((get low key ≡ Some value) × (get high key ≡ None)) ⊎ ((get low key ≡ None) × (get high key ≡ Some value))
+  pub once : (key : ℕ) (value : List ℕ) → get whole key ≡ Some value →
+      ((get low key ≡ Some value) × (get high key ≡ None)) ⊎ ((get low key ≡ None) × (get high key ≡ Some value))
   pub of_low : (key : ℕ) (value : List ℕ) → get low key ≡ Some value → get whole key ≡ Some value
   pub of_high : (key : ℕ) (value : List ℕ) → get high key ≡ Some value → get whole key ≡ Some value
 

@@ -1,5 +1,6 @@
 -- A store of tables, and what its calls do.
-use Rattle.std.specs.Prelude.{ℕ, suc, ◌≡◌, ◌+◌, ◌≤◌, Bool, true, false, List, [], ◌∷◌, length, map, Option, Some, None, is_some, option_map, if◌then◌else◌, refl}
+use Rattle.std.specs.Prelude.{ℕ, suc, ◌≡◌, ◌+◌, ◌≤◌, Bool, true, false, List, [], ◌∷◌, length, map, Option, Some, None, is_some, option_map}
+use Rattle.std.specs.Prelude.{if◌then◌else◌, refl}
 use Rattle.std.specs.Coded.{Coded, code_by, coded×, coded_ℕ, coded_bool, coded_list}
 use Rattle.std.specs.FinMap.{empty}
 use Rattle.dds_disk.specs.Pages.{Pages}
@@ -26,11 +27,13 @@ abbrev pub name_code : Coded Name
 name_code = code_by (ℕ × ℕ) (coded× coded_ℕ coded_ℕ) (λ n. (n.bits, n.depth)) (λ p. record { bits = p.0; depth = p.1 }) (λ _. refl)
 
 abbrev pub slot_code : Coded Slot
-slot_code = code_by (ℕ × (ℕ × (ℕ × List ℕ))) (coded× coded_ℕ (coded× coded_ℕ (coded× coded_ℕ (coded_list coded_ℕ)))) (λ s. (s.key, (s.page, (s.len, s.overflow)))) (λ p. record { key = p.0; page = p.1.0; len = p.1.1.0; overflow = p.1.1.1 }) (λ _. refl)
+slot_code = code_by (ℕ × (ℕ × (ℕ × List ℕ))) (coded× coded_ℕ (coded× coded_ℕ (coded× coded_ℕ (coded_list coded_ℕ))))
+    (λ s. (s.key, (s.page, (s.len, s.overflow)))) (λ p. record { key = p.0; page = p.1.0; len = p.1.1.0; overflow = p.1.1.1 }) (λ _. refl)
 
 abbrev pub store_code : {D : Type 0} → Coded D → Coded (StoreState D)
 store_code {D = D} d =
-    code_by (CacheState D × (List (Name × ℕ) × (List (List (List Slot)) × Bool))) (coded× (cache_code d) (coded× (coded_list (coded× name_code coded_ℕ)) (coded× (coded_list (coded_list (coded_list slot_code))) coded_bool)))
+    code_by (CacheState D × (List (Name × ℕ) × (List (List (List Slot)) × Bool)))
+    (coded× (cache_code d) (coded× (coded_list (coded× name_code coded_ℕ)) (coded× (coded_list (coded_list (coded_list slot_code))) coded_bool)))
     (λ s. (s.cache, (s.tables, (s.slots, s.failed)))) (λ p. record { cache = p.0; tables = p.1.0; slots = p.1.1.0; failed = p.1.1.1 }) (λ _. refl)
 
 abbrev pub named : List Chains → List Named

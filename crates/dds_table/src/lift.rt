@@ -29,7 +29,8 @@ impl<D: Disk> Store<D> {
         requires live { self.old.failed ≡ false }
         requires there { IsTrue (has_table self.old.tables name) }
         requires empty { (a : Pages) → D.pages self.old.cache.disk ≡ Some a → size (map_named (maps_of a self.old.tables) name) ≡ 0 }
-        ensures told { (a p : Pages) → D.pages self.old.cache.disk ≡ Some a → E.pages old.old ≡ Some p → IfOk result (λ count. Lifted p name root count (D.pages self.new.cache.disk) self.new.tables (maps_of a self.old.tables)) }
+        ensures told { (a p : Pages) → D.pages self.old.cache.disk ≡ Some a → E.pages old.old ≡ Some p →
+            IfOk result (λ count. Lifted p name root count (D.pages self.new.cache.disk) self.new.tables (maps_of a self.old.tables)) }
         ensures page { (p : Pages) → E.pages old.old ≡ Some p → IsRefused p name root result }
         ensures tables { OnOk result (self.new.tables ≡ self.old.tables) }
         ensures ok { OnOk result (self.new.failed ≡ false) }
@@ -62,7 +63,8 @@ impl<D: Disk> Store<D> {
         requires empty { (a : Pages) → D.pages self.old.cache.disk ≡ Some a → size (map_named (maps_of a self.old.tables) name) ≡ 0 }
         requires covered { AreCovered name pairs.now }
         requires few { length pairs.now ≤ 16384 }
-        ensures told { (a : Pages) → D.pages self.old.cache.disk ≡ Some a → OnOk result (Holds (D.pages self.new.cache.disk) self.new.tables (with_map (maps_of a self.old.tables) name (map_of pairs.now))) }
+        ensures told { (a : Pages) → D.pages self.old.cache.disk ≡ Some a →
+            OnOk result (Holds (D.pages self.new.cache.disk) self.new.tables (with_map (maps_of a self.old.tables) name (map_of pairs.now))) }
         ensures tables { OnOk result (self.new.tables ≡ self.old.tables) }
         ensures ok { OnOk result (self.new.failed ≡ false) }
         ensures err { OnErr result (self.new.failed ≡ true) }

@@ -77,7 +77,8 @@ fn is_from(places: &BTreeMap<LeafName, usize>, name: &LeafName, at: usize) -> bo
 
 /// Gives a name another place, if its place is at least `at`. Takes no memory: the name has its place.
 fn move_to(places: &mut BTreeMap<LeafName, usize>, name: LeafName, at: usize, place: usize)
-    ensures { (n : Name) → tree.get name_cmp places.new n ≡ (if same_name name n && is_from at (tree.get name_cmp places.old n) then Some place else tree.get name_cmp places.old n) }
+    ensures { (n : Name) → tree.get name_cmp places.new n
+        ≡ (if same_name name n && is_from at (tree.get name_cmp places.old n) then Some place else tree.get name_cmp places.old n) }
 {
     if is_from(places, &name, at) {
         let _ = places.insert(name, place);
@@ -99,7 +100,9 @@ fn stands(places: &BTreeMap<LeafName, usize>, tables: &[Chains], name: &LeafName
 
 /// Forgets a name whose place has no table of that name.
 fn forget_stale(places: &mut BTreeMap<LeafName, usize>, tables: &[Chains], name: &LeafName)
-    ensures { (n : Name) → tree.get name_cmp places.new n ≡ (if same_name name.now n && not (stands_at (named tables.now) name.now (tree.get name_cmp places.old name.now)) then None else tree.get name_cmp places.old n) }
+    ensures { (n : Name) → tree.get name_cmp places.new n
+        ≡ (if same_name name.now n && not (stands_at (named tables.now) name.now (tree.get name_cmp places.old name.now)) then None else tree.get name_cmp
+        places.old n) }
 {
     if !stands(places, tables, name) {
         places.remove(name);

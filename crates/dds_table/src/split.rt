@@ -26,8 +26,13 @@ impl<D: Disk> Store<D> {
         requires depth { name.depth < 16 }
         requires low { has_table self.old.tables (low_half name) ≡ false }
         requires high { has_table self.old.tables (high_half name) ≡ false }
-        ensures told { (a : Pages) → D.pages self.old.cache.disk ≡ Some a → OnOk result (Holds (D.pages self.new.cache.disk) self.new.tables (maps_of a (without_table self.old.tables name) ++ halves_of name (covered (map_named (maps_of a self.old.tables) name) (low_half name)) (covered (map_named (maps_of a self.old.tables) name) (high_half name)))) }
-        ensures parted { (a : Pages) → D.pages self.old.cache.disk ≡ Some a → IsParted (map_named (maps_of a self.old.tables) name) (covered (map_named (maps_of a self.old.tables) name) (low_half name)) (covered (map_named (maps_of a self.old.tables) name) (high_half name)) }
+        ensures told { (a : Pages) → D.pages self.old.cache.disk ≡ Some a →
+            OnOk result (Holds (D.pages self.new.cache.disk) self.new.tables (maps_of a (without_table self.old.tables name)
+            ++ halves_of name (covered (map_named (maps_of a self.old.tables) name) (low_half name))
+            (covered (map_named (maps_of a self.old.tables) name) (high_half name)))) }
+        ensures parted { (a : Pages) → D.pages self.old.cache.disk ≡ Some a →
+            IsParted (map_named (maps_of a self.old.tables) name) (covered (map_named (maps_of a self.old.tables) name) (low_half name))
+            (covered (map_named (maps_of a self.old.tables) name) (high_half name)) }
         ensures names { OnOk result (names self.new.tables ≡ names (without_table self.old.tables name) ++ low_half name ∷ high_half name ∷ []) }
         ensures ok { OnOk result (self.new.failed ≡ false) }
         ensures err { OnErr result (self.new.failed ≡ true) }
@@ -57,7 +62,8 @@ impl<D: Disk> Store<D> {
         requires high { IsTrue (has_table self.old.tables (high_half name)) }
         requires depth { name.depth < 16 }
         requires room { (a : Pages) → D.pages self.old.cache.disk ≡ Some a → HasRoom (maps_of a self.old.tables) name }
-        ensures told { (a : Pages) → D.pages self.old.cache.disk ≡ Some a → OnOk result (IsTurn (D.pages self.new.cache.disk) self.new.tables (maps_of a self.old.tables) name) }
+        ensures told { (a : Pages) → D.pages self.old.cache.disk ≡ Some a →
+            OnOk result (IsTurn (D.pages self.new.cache.disk) self.new.tables (maps_of a self.old.tables) name) }
         ensures tables { OnOk result (self.new.tables ≡ self.old.tables) }
         ensures ok { OnOk result (self.new.failed ≡ false) }
         ensures err { OnErr result (self.new.failed ≡ true) }
@@ -85,7 +91,8 @@ impl<D: Disk> Store<D> {
         requires depth { name.depth < 16 }
         requires room { (a : Pages) → D.pages self.old.cache.disk ≡ Some a → HasRoom (maps_of a self.old.tables) name }
         requires bound { (a : Pages) → D.pages self.old.cache.disk ≡ Some a → get (map_named (maps_of a self.old.tables) name) key ≡ Some value.now }
-        ensures told { (a : Pages) → D.pages self.old.cache.disk ≡ Some a → OnOk result (Holds (D.pages self.new.cache.disk) self.new.tables (moved (maps_of a self.old.tables) name key value.now)) }
+        ensures told { (a : Pages) → D.pages self.old.cache.disk ≡ Some a →
+            OnOk result (Holds (D.pages self.new.cache.disk) self.new.tables (moved (maps_of a self.old.tables) name key value.now)) }
         ensures tables { OnOk result (self.new.tables ≡ self.old.tables) }
         ensures ok { OnOk result (self.new.failed ≡ false) }
         ensures err { OnErr result (self.new.failed ≡ true) }
@@ -106,7 +113,8 @@ impl<D: Disk> Store<D> {
         requires live { self.old.failed ≡ false }
         requires there { IsTrue (has_table self.old.tables name) }
         requires room { (a : Pages) → D.pages self.old.cache.disk ≡ Some a → size (map_named (maps_of a self.old.tables) name) < 16384 }
-        ensures told { (a : Pages) → D.pages self.old.cache.disk ≡ Some a → OnOk result (Holds (D.pages self.new.cache.disk) self.new.tables (put_covered (maps_of a self.old.tables) name key value.now)) }
+        ensures told { (a : Pages) → D.pages self.old.cache.disk ≡ Some a →
+            OnOk result (Holds (D.pages self.new.cache.disk) self.new.tables (put_covered (maps_of a self.old.tables) name key value.now)) }
         ensures tables { OnOk result (self.new.tables ≡ self.old.tables) }
         ensures ok { OnOk result (self.new.failed ≡ false) }
         ensures err { OnErr result (self.new.failed ≡ true) }

@@ -1,6 +1,7 @@
 //! A store of tables by their names.
 
-ghost use Rattle.std.specs.Prelude.{◌≡◌, ℕ, ◌+◌, ◌<◌, ◌≤◌, ◌++◌, ◌∷◌, [], Some, None, true, false, is_some, IsTrue, IfOk, IfErr, OnOk, OnErr, IsErrOf, IfSome, length, vec_capacity, ◌==◌, ◌||◌, ◌&&◌, not};
+ghost use Rattle.std.specs.Prelude.{◌≡◌, ℕ, ◌+◌, ◌<◌, ◌≤◌, ◌++◌, ◌∷◌, [], Some, None, true, false, is_some, IsTrue, IfOk, IfErr, OnOk};
+ghost use Rattle.std.specs.Prelude.{OnErr, IsErrOf, IfSome, length, vec_capacity, ◌==◌, ◌||◌, ◌&&◌, not};
 ghost use Rattle.std.specs.FinMap.{empty, get, insert, remove as without, contains_key, len as size};
 ghost use Rattle.dds_base.specs.Name.{Name, covers, overlaps, same_name};
 ghost use Rattle.dds_base.specs.Outside.{Rose};
@@ -49,7 +50,9 @@ impl<D: Disk> Model for Store<D> {
 
     ghost view = { λ a. record { cache = a.space.cache; tables = named a.tables.items; slots = slots_of a.tables.items; failed = a.failed } };
 
-    ghost invariant = { λ a. Unless a.failed (IsStore (D.pages a.space.cache.disk) a.space.free.items a.space.fresh a.tables.items a.dropped.items (vec_capacity a.dropped)) × Unless a.failed (IsPlaced a.places (named a.tables.items)) };
+    ghost invariant = { λ a. Unless a.failed
+        (IsStore (D.pages a.space.cache.disk) a.space.free.items a.space.fresh a.tables.items a.dropped.items (vec_capacity a.dropped))
+        × Unless a.failed (IsPlaced a.places (named a.tables.items)) };
 }
 
 impl<D: Disk> Store<D> {
@@ -90,7 +93,8 @@ impl<D: Disk> Store<D> {
     /// Adds an empty table.
     pub fn add(&mut self, name: LeafName) -> Result<(), TableFault>
         requires live { self.old.failed ≡ false }
-        ensures told { (a : Pages) → D.pages self.old.cache.disk ≡ Some a → OnOk result (Holds (D.pages self.new.cache.disk) self.new.tables (maps_of a self.old.tables ++ (name, empty) ∷ [])) }
+        ensures told { (a : Pages) → D.pages self.old.cache.disk ≡ Some a →
+            OnOk result (Holds (D.pages self.new.cache.disk) self.new.tables (maps_of a self.old.tables ++ (name, empty) ∷ [])) }
         ensures names { OnOk result (names self.new.tables ≡ names self.old.tables ++ name ∷ []) }
         ensures ok { OnOk result (self.new.failed ≡ false) }
         ensures err { OnErr result (self.new.failed ≡ true) }
@@ -144,7 +148,8 @@ impl<D: Disk> Store<D> {
     pub fn get(&mut self, name: LeafName, key: u64) -> Result<Option<Value>, TableFault>
         requires live { self.old.failed ≡ false }
         requires there { IsTrue (has_table self.old.tables name) }
-        ensures told { (a : Pages) → D.pages self.old.cache.disk ≡ Some a → IfOk result (λ value. value ≡ get (map_named (maps_of a self.old.tables) name) key) }
+        ensures told { (a : Pages) → D.pages self.old.cache.disk ≡ Some a →
+            IfOk result (λ value. value ≡ get (map_named (maps_of a self.old.tables) name) key) }
         ensures pages { D.pages self.new.cache.disk ≡ D.pages self.old.cache.disk }
         ensures tables { self.new.tables ≡ self.old.tables }
         ensures slots { self.new.slots ≡ self.old.slots }
@@ -177,7 +182,8 @@ impl<D: Disk> Store<D> {
     ) -> Result<Part, TableFault>
         requires live { self.old.failed ≡ false }
         requires there { IsTrue (has_table self.old.tables name) }
-        ensures told { (a : Pages) → D.pages self.old.cache.disk ≡ Some a → IfOk result (λ part. IsPart (map_named (maps_of a self.old.tables) name) after most part.pairs part.last) }
+        ensures told { (a : Pages) → D.pages self.old.cache.disk ≡ Some a →
+            IfOk result (λ part. IsPart (map_named (maps_of a self.old.tables) name) after most part.pairs part.last) }
         ensures most { IfOk result (λ part. length part.pairs ≤ most) }
         ensures pages { D.pages self.new.cache.disk ≡ D.pages self.old.cache.disk }
         ensures tables { self.new.tables ≡ self.old.tables }
@@ -218,10 +224,14 @@ impl<D: Disk> Store<D> {
         requires live { self.old.failed ≡ false }
         requires there { IsTrue (has_table self.old.tables name) }
         requires covers { IsTrue (covers name key) }
-        requires room { (a : Pages) → D.pages self.old.cache.disk ≡ Some a → contains_key (map_named (maps_of a self.old.tables) name) key ≡ false → size (map_named (maps_of a self.old.tables) name) < 16384 }
-        ensures told { (a : Pages) → D.pages self.old.cache.disk ≡ Some a → OnOk result (Holds (D.pages self.new.cache.disk) self.new.tables (with_map (maps_of a self.old.tables) name (insert (map_named (maps_of a self.old.tables) name) key value.now))) }
+        requires room { (a : Pages) → D.pages self.old.cache.disk ≡ Some a → contains_key (map_named (maps_of a self.old.tables) name) key ≡ false →
+            size (map_named (maps_of a self.old.tables) name) < 16384 }
+        ensures told { (a : Pages) → D.pages self.old.cache.disk ≡ Some a →
+            OnOk result (Holds (D.pages self.new.cache.disk) self.new.tables
+            (with_map (maps_of a self.old.tables) name (insert (map_named (maps_of a self.old.tables) name) key value.now))) }
         ensures tables { OnOk result (self.new.tables ≡ self.old.tables) }
-        ensures was { (a : Pages) → D.pages self.old.cache.disk ≡ Some a → IfOk result (λ was. was ≡ contains_key (map_named (maps_of a self.old.tables) name) key) }
+        ensures was { (a : Pages) → D.pages self.old.cache.disk ≡ Some a →
+            IfOk result (λ was. was ≡ contains_key (map_named (maps_of a self.old.tables) name) key) }
         ensures ok { OnOk result (self.new.failed ≡ false) }
         ensures err { OnErr result (self.new.failed ≡ true) }
         ensures lawful { (a : Pages) → D.pages self.old.cache.disk ≡ Some a → IfErr result IsNoPage }
@@ -249,9 +259,12 @@ impl<D: Disk> Store<D> {
     pub fn remove(&mut self, name: LeafName, key: u64) -> Result<bool, TableFault>
         requires live { self.old.failed ≡ false }
         requires there { IsTrue (has_table self.old.tables name) }
-        ensures told { (a : Pages) → D.pages self.old.cache.disk ≡ Some a → OnOk result (Holds (D.pages self.new.cache.disk) self.new.tables (with_map (maps_of a self.old.tables) name (without (map_named (maps_of a self.old.tables) name) key))) }
+        ensures told { (a : Pages) → D.pages self.old.cache.disk ≡ Some a →
+            OnOk result (Holds (D.pages self.new.cache.disk) self.new.tables
+            (with_map (maps_of a self.old.tables) name (without (map_named (maps_of a self.old.tables) name) key))) }
         ensures tables { OnOk result (self.new.tables ≡ self.old.tables) }
-        ensures was { (a : Pages) → D.pages self.old.cache.disk ≡ Some a → IfOk result (λ was. was ≡ contains_key (map_named (maps_of a self.old.tables) name) key) }
+        ensures was { (a : Pages) → D.pages self.old.cache.disk ≡ Some a →
+            IfOk result (λ was. was ≡ contains_key (map_named (maps_of a self.old.tables) name) key) }
         ensures ok { OnOk result (self.new.failed ≡ false) }
         ensures err { OnErr result (self.new.failed ≡ true) }
         ensures lawful { (a : Pages) → D.pages self.old.cache.disk ≡ Some a → IfErr result IsNoPage }

@@ -4,7 +4,8 @@ ghost use Rattle.std.specs.Prelude.{◌≡◌, ℕ, ◌≤◌, ◌<◌, ◌+◌,
 ghost use Rattle.dds_base.specs.Outside.{Rose};
 ghost use Rattle.dds_disk.specs.Pages.{Pages, page_at};
 ghost use Rattle.dds_pages.specs.Bucket.{IsHere, AreHere};
-ghost use Rattle.dds_table.specs.Old.{here_value, add_all, start_of, left, bucket_turn, page_turn, turn, counted, IsOldRead, IsAdded, IsTurn, IsCounted, IsWalk, IsUnread, NoStore, AreCovered};
+ghost use Rattle.dds_table.specs.Old.{here_value, add_all, start_of, left, bucket_turn, page_turn, turn, counted, IsOldRead, IsAdded};
+ghost use Rattle.dds_table.specs.Old.{IsTurn, IsCounted, IsWalk, IsUnread, NoStore, AreCovered};
 ghost use Rattle.dds_pages.specs.Said.{old_root_in, old_bucket_in};
 ghost use Rattle.dds_table.specs.Met.{AreKeysOf, IsMetBy};
 

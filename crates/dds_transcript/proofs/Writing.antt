@@ -1,5 +1,6 @@
 -- Writing the text of lines piece by piece.
-use Rattle.std.proofs.Common.{◌≡◌, ℕ, ◌+◌, ◌<◌, ◌≤◌, List, [], ◌∷◌, ◌++◌, length, get_or, drop, drop-cons, add-one, Option, refl, ap, sym, ◌∙◌, arith, append_assoc, append-nil, subst}
+use Rattle.std.proofs.Common.{◌≡◌, ℕ, ◌+◌, ◌<◌, ◌≤◌, List, [], ◌∷◌, ◌++◌, length, get_or, drop, drop-cons, add-one, Option, refl, ap, sym}
+use Rattle.std.proofs.Common.{◌∙◌, arith, append_assoc, append-nil, subst}
 use Rattle.std.proofs.lemmas.Grind.{common_steps}
 use Rattle.dds_base.proofs.Outside.{added-none, added-more}
 use Rattle.dds_base.specs.Outside.{Added, AddedPart}
@@ -18,7 +19,8 @@ pub writing-first : (start : Option (List ℕ)) (all : List ℕ) → IsWriting s
 writing-first start all = record { part = []; whole = refl; added = added-none start }
 
 -- one line's text more: a beginning of what was gathered was written
-pub writing-more : (start : Option (List ℕ)) (all left rest line more text kept : List ℕ) (now new : Option (List ℕ)) → IsWriting start all left rest now → rest ≡ line ++ more → text ≡ left ++ line → IsMoved now text kept new → IsWriting start all kept more new
+pub writing-more : (start : Option (List ℕ)) (all left rest line more text kept : List ℕ) (now new : Option (List ℕ)) → IsWriting start all left rest now →
+    rest ≡ line ++ more → text ≡ left ++ line → IsMoved now text kept new → IsWriting start all kept more new
 writing-more start all left rest line more text kept now new w r t m = record {
   part = w.part ++ m.piece;
   whole =
@@ -29,7 +31,8 @@ writing-more start all left rest line more text kept now new w r t m = record {
 }
 
 -- a beginning of what was gathered was written
-pub writing-part : (start : Option (List ℕ)) (all left rest line more text : List ℕ) (now new : Option (List ℕ)) → IsWriting start all left rest now → rest ≡ line ++ more → text ≡ left ++ line → AddedPart now text new → AddedPart start all new
+pub writing-part : (start : Option (List ℕ)) (all left rest line more text : List ℕ) (now new : Option (List ℕ)) → IsWriting start all left rest now →
+    rest ≡ line ++ more → text ≡ left ++ line → AddedPart now text new → AddedPart start all new
 writing-part start all left rest line more text now new w r t p = record {
   part = w.part ++ p.part;
   rest = p.rest ++ more;
@@ -41,13 +44,15 @@ writing-part start all left rest line more text now new w r t p = record {
 }
 
 -- what is gathered was written, and no line is left
-pub writing-end : (start : Option (List ℕ)) (all left rest text : List ℕ) (now new : Option (List ℕ)) → IsWriting start all left rest now → rest ≡ [] → text ≡ left → Added now text new → Added start all new
+pub writing-end : (start : Option (List ℕ)) (all left rest text : List ℕ) (now new : Option (List ℕ)) → IsWriting start all left rest now → rest ≡ [] →
+    text ≡ left → Added now text new → Added start all new
 writing-end start all left rest text now new w r t a =
     let e : all ≡ w.part ++ text = w.whole ∙ rw (r, t) (ap (λ (l : List ℕ). w.part ++ l) (append-nil left)) in
     subst (λ (l : List ℕ). Added start l new) (sym e) (added-more start now new w.part text w.added a)
 
 -- the text of the lines from a place on
-pub report-drop : (lines : List ReportLine) (place : ℕ) (line : ReportLine) → place < length lines → line ≡ get_or lines place line → report_text (drop place lines) ≡ line_text line ++ report_text (drop (place + 1) lines)
+pub report-drop : (lines : List ReportLine) (place : ℕ) (line : ReportLine) → place < length lines → line ≡ get_or lines place line →
+    report_text (drop place lines) ≡ line_text line ++ report_text (drop (place + 1) lines)
 report-drop lines place line h e =
     let d : drop place lines ≡ get_or lines place line ∷ drop (place + 1) lines = rw add-one (drop-cons lines place line h) in
     ap report_text d ∙ ap (λ (l : ReportLine). line_text l ++ report_text (drop (place + 1) lines)) (sym e)

@@ -1,5 +1,6 @@
 -- A trie with one node more: at the start, or as a half that wasn't there.
-use Rattle.std.proofs.Common.{◌≡◌, ℕ, ◌+◌, ◌%◌, ◌^◌, ◌==◌, ◌<◌, ◌⊎◌, inl, inr, Bool, true, false, eqb, List, [], ◌∷◌, ◌++◌, length, set, get_or, Option, Some, None, refl, ap, sym, ◌∙◌, zero, suc, subst, arith, length-append, length-set}
+use Rattle.std.proofs.Common.{◌≡◌, ℕ, ◌+◌, ◌%◌, ◌^◌, ◌==◌, ◌<◌, ◌⊎◌, inl, inr, Bool, true, false, eqb, List, [], ◌∷◌, ◌++◌, length, set}
+use Rattle.std.proofs.Common.{get_or, Option, Some, None, refl, ap, sym, ◌∙◌, zero, suc, subst, arith, length-append, length-set}
 use Rattle.std.proofs.lemmas.Bool.Decides.{nat_tests}
 use Rattle.std.proofs.lemmas.List.{get_or-set_same, get_or-set_other, get_or_append_left}
 use Rattle.std.proofs.Math.Seq.{get_or-append_seam}
@@ -38,7 +39,8 @@ module _ (ns ms : List Node) (new : Node) (key depth from : ℕ) (h : IsLinked n
   itself = ap (λ xs. get_or xs from blank) h.made ∙ get_or-set_same (ns ++ new ∷ []) from _ blank (rw longer (omega (arith, within)))
 
   added : get_or ms (length ns) blank ≡ new
-  added = ap (λ xs. get_or xs (length ns) blank) h.made ∙ get_or-set_other (ns ++ new ∷ []) from (length ns) _ blank (λ e. omega (arith, e, within)) ∙ get_or-append_seam ns new [] blank
+  added = ap (λ xs. get_or xs (length ns) blank) h.made ∙ get_or-set_other (ns ++ new ∷ []) from (length ns) _ blank (λ e. omega (arith, e, within))
+      ∙ get_or-append_seam ns new [] blank
 
   -- what a walk does in the new list: what it did, or it comes to the new node
   abbrev Moved : ℕ → ℕ → Type 0
@@ -78,7 +80,11 @@ module _ (ns ms : List Node) (new : Node) (key depth from : ℕ) (h : IsLinked n
       let after = step ms k e from is ∙ ap (λ (n : Node). linked (child n (is_high k e))) itself in
       elim (child-linked (get_or ns from blank) (is_high k e) (is_high key depth) (length ns)) [
         | inl w ↦ inl (after ∙ ap linked w ∙ sym before)
-        | inr w ↦ inr (before ∙ ap (λ b. linked (child (get_or ns from blank) b)) w.0 ∙ free-child, after ∙ ap linked w.1 ∙ linked-length, name-next k key e depth (sym (h.trie.named k e from was) ∙ h.trie.named key depth from h.at) w.0)
+        | inr w ↦ inr (
+          before ∙ ap (λ b. linked (child (get_or ns from blank) b)) w.0 ∙ free-child,
+          after ∙ ap linked w.1 ∙ linked-length,
+          name-next k key e depth (sym (h.trie.named k e from was) ∙ h.trie.named key depth from h.at) w.0,
+        )
       ]
 
   on-other : (k e i : ℕ) → place ns k e ≡ Some i → place ms k e ≡ Some i → (i ≡ from → ⊥) → Moved k (suc e)
@@ -125,7 +131,8 @@ module _ (ns ms : List Node) (new : Node) (key depth from : ℕ) (h : IsLinked n
   pub new-linked : place ms key (depth + 1) ≡ Some (length ns)
   new-linked =
       let is = kept-linked key depth from h.at in
-      place-next ms key depth from is ∙ ap (λ (n : Node). linked (child n (is_high key depth))) itself ∙ ap linked (child-same (get_or ns from blank) (is_high key depth) (length ns)) ∙ linked-length
+      place-next ms key depth from is ∙ ap (λ (n : Node). linked (child n (is_high key depth))) itself
+      ∙ ap linked (child-same (get_or ns from blank) (is_high key depth) (length ns)) ∙ linked-length
     where
       child-same : (n : Node) (b : Bool) (to : ℕ) → child (linked_to n b to) b ≡ to
       child-same n true to = refl
@@ -134,8 +141,11 @@ module _ (ns ms : List Node) (new : Node) (key depth from : ℕ) (h : IsLinked n
   name-kept : (i : ℕ) → i < length ns → (get_or ms i blank).name ≡ (get_or ns i blank).name
   name-kept i lt =
       elim (eqb i from) as (λ b. eqb i from ≡ b → (get_or ms i blank).name ≡ (get_or ns i blank).name) [
-        | true ↦ λ t. let same : i ≡ from = grind (arith, nat_tests, t) in subst (λ j. (get_or ms j blank).name ≡ (get_or ns j blank).name) (sym same) (ap (λ (n : Node). n.name) itself ∙ name-same (get_or ns from blank) (is_high key depth) (length ns))
-        | false ↦ λ t. ap (λ (n : Node). n.name) (other i lt (λ same. let no : eqb i from ≡ true = grind (arith, nat_tests, same) in let f : true ≡ false = sym no ∙ t in cc))
+        | true ↦ λ t. let same : i ≡ from = grind (arith, nat_tests, t) in
+            subst (λ j. (get_or ms j blank).name ≡ (get_or ns j blank).name) (sym same) (ap (λ (n : Node). n.name) itself
+            ∙ name-same (get_or ns from blank) (is_high key depth) (length ns))
+        | false ↦ λ t. ap (λ (n : Node). n.name)
+            (other i lt (λ same. let no : eqb i from ≡ true = grind (arith, nat_tests, same) in let f : true ≡ false = sym no ∙ t in cc))
       ] refl
     where
       name-same : (n : Node) (b : Bool) (to : ℕ) → (linked_to n b to).name ≡ n.name
@@ -153,14 +163,19 @@ module _ (ns ms : List Node) (new : Node) (key depth from : ℕ) (h : IsLinked n
   named-linked k e i is =
       elim (moved k e) [
         | inl w ↦ let was = sym w ∙ is in name-kept i (h.trie.there k e i was) ∙ h.trie.named k e i was
-        | inr w ↦ let eq : Some i ≡ Some (length ns) = sym is ∙ w.1 in let same : i ≡ length ns = cc in ap (λ j. (get_or ms j blank).name) same ∙ ap (λ (n : Node). n.name) added ∙ h.name ∙ sym w.2
+        | inr w ↦ let eq : Some i ≡ Some (length ns) = sym is ∙ w.1 in let same : i ≡ length ns = cc in
+            ap (λ j. (get_or ms j blank).name) same ∙ ap (λ (n : Node). n.name) added ∙ h.name ∙ sym w.2
       ]
 
   found-linked : (i : ℕ) → i < length ms → place ms (get_or ms i blank).name.bits (get_or ms i blank).name.depth ≡ Some i
   found-linked i lt =
       elim (eqb i (length ns)) as (λ b. eqb i (length ns) ≡ b → place ms (get_or ms i blank).name.bits (get_or ms i blank).name.depth ≡ Some i) [
-        | true ↦ λ t. let same : i ≡ length ns = grind (arith, nat_tests, t) in subst (λ j. place ms (get_or ms j blank).name.bits (get_or ms j blank).name.depth ≡ Some j) (sym same) (ap (λ (n : Node). place ms n.name.bits n.name.depth) added ∙ ap (λ (n : Name). place ms n.bits n.depth) h.name ∙ place-low ms key (depth + 1) ∙ new-linked)
-        | false ↦ λ t. let old : i < length ns = grind (arith, nat_tests, t, lt, length-linked) in ap (λ (n : Name). place ms n.bits n.depth) (name-kept i old) ∙ kept-linked _ _ i (h.trie.found i old)
+        | true ↦ λ t. let same : i ≡ length ns = grind (arith, nat_tests, t) in
+            subst (λ j. place ms (get_or ms j blank).name.bits (get_or ms j blank).name.depth ≡ Some j) (sym same)
+            (ap (λ (n : Node). place ms n.name.bits n.name.depth) added ∙ ap (λ (n : Name). place ms n.bits n.depth) h.name ∙ place-low ms key (depth + 1)
+            ∙ new-linked)
+        | false ↦ λ t. let old : i < length ns = grind (arith, nat_tests, t, lt, length-linked) in
+            ap (λ (n : Name). place ms n.bits n.depth) (name-kept i old) ∙ kept-linked _ _ i (h.trie.found i old)
       ] refl
 
   pub trie-linked : IsTrie ms
@@ -168,7 +183,9 @@ module _ (ns ms : List Node) (new : Node) (key depth from : ℕ) (h : IsLinked n
 
   pub seen-linked : seen ms ≡ seen ns
   seen-linked =
-      ap seen h.made ∙ seen-set (ns ++ new ∷ []) from (linked_to (get_or ns from blank) (is_high key depth) (length ns)) (name-same (get_or ns from blank) (is_high key depth) (length ns) ∙ ap (λ (n : Node). n.name) there) (leaf-same (get_or ns from blank) (is_high key depth) (length ns) ∙ ap (λ (n : Node). n.leaf) there) ∙ seen-push ns new h.leaf
+      ap seen h.made ∙ seen-set (ns ++ new ∷ []) from (linked_to (get_or ns from blank) (is_high key depth) (length ns))
+      (name-same (get_or ns from blank) (is_high key depth) (length ns) ∙ ap (λ (n : Node). n.name) there)
+      (leaf-same (get_or ns from blank) (is_high key depth) (length ns) ∙ ap (λ (n : Node). n.leaf) there) ∙ seen-push ns new h.leaf
     where
       there : get_or ns from blank ≡ get_or (ns ++ new ∷ []) from blank
       there = sym (get_or_append_left ns (new ∷ []) blank from within)
@@ -209,7 +226,9 @@ module _ (new : Node) (name : new.name ≡ name_at 0 0) (low : new.low ≡ 0) (h
   trie-root = record {
     there = λ k e i is. let z = (start k e i is).0 in omega (arith, z);
     named = λ k e i is. let w = start k e i is in ap (λ j. (get_or (new ∷ []) j blank).name) w.0 ∙ named-0 k ∙ ap (name_at k) (sym w.1);
-    found = λ i lt. let z : i ≡ 0 = omega (arith, lt) in subst (λ j. place (new ∷ []) (get_or (new ∷ []) j blank).name.bits (get_or (new ∷ []) j blank).name.depth ≡ Some j) (sym z) (ap (λ (n : Name). place (new ∷ []) n.bits n.depth) name ∙ place-first (new ∷ []) (0 % 2 ^ 0));
+    found = λ i lt. let z : i ≡ 0 = omega (arith, lt) in
+        subst (λ j. place (new ∷ []) (get_or (new ∷ []) j blank).name.bits (get_or (new ∷ []) j blank).name.depth ≡ Some j) (sym z)
+        (ap (λ (n : Name). place (new ∷ []) n.bits n.depth) name ∙ place-first (new ∷ []) (0 % 2 ^ 0));
   }
 
 pub trie-none : IsTrie []

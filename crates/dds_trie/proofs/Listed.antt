@@ -25,7 +25,9 @@ module _ {K X : Type 0} {R : K → K → Ordering} (total : IsTotalOrder R) wher
       same_entries R total anti _ es (entries_sorted _) (subst T (sym (rising es h)) tt) (λ q. sym (get-entries _ q) ∙ get-from_entries total es q)
 
   -- a copy of all that is bound
-  pub values-all : IsAntisymmetric R → (list : List X) (left all es : List (K × X)) (m : FinMap R X) → list ++ map (λ e. e.1) left ≡ map (λ e. e.1) all → left ≡ [] → all ≡ es → IsStrictlySortedBy R (map (λ e. e.0) es) → from_entries {R = R} es ≡ m → list ≡ map (λ e. e.1) (entries m)
+  pub values-all : IsAntisymmetric R → (list : List X) (left all es : List (K × X)) (m : FinMap R X) → list ++ map (λ e. e.1) left ≡ map (λ e. e.1) all →
+      left ≡ [] → all ≡ es → IsStrictlySortedBy R (map (λ e. e.0) es) → from_entries {R = R} es ≡ m → list ≡ map (λ e. e.1) (entries m)
   values-all anti list left all es m sum none is sorted seen =
       let c : list ++ [] ≡ map (λ (e : K × X). e.1) all = subst (λ (l : List (K × X)). list ++ map (λ e. e.1) l ≡ map (λ e. e.1) all) none sum in
-      sym (append-nil list) ∙ c ∙ ap (map (λ (e : K × X). e.1)) (is ∙ sym (entries-seen anti es sorted)) ∙ ap (λ (n : FinMap R X). map (λ (e : K × X). e.1) (entries n)) seen
+      sym (append-nil list) ∙ c ∙ ap (map (λ (e : K × X). e.1)) (is ∙ sym (entries-seen anti es sorted))
+      ∙ ap (λ (n : FinMap R X). map (λ (e : K × X). e.1) (entries n)) seen

@@ -29,22 +29,27 @@ within-own m zero key = or-nothing (get m (name_at key 0)) ∙ sym (within-none 
 within-own m (suc d) key = sym (within-more m d key)
 
 -- what the walk has found when it has come to a node
-pub within-here : (ns : List Node) (key depth from : ℕ) (n : Node) (r best : Option Leaf) → IsTrie ns → place ns key depth ≡ Some from → n ≡ get_or ns from blank → r ≡ or_else n.leaf best → best ≡ shallower (seen ns) depth key → r ≡ leaf_within (seen ns) depth key
+pub within-here : (ns : List Node) (key depth from : ℕ) (n : Node) (r best : Option Leaf) → IsTrie ns → place ns key depth ≡ Some from →
+    n ≡ get_or ns from blank → r ≡ or_else n.leaf best → best ≡ shallower (seen ns) depth key → r ≡ leaf_within (seen ns) depth key
 within-here ns key depth from n r best trie at node found before =
-    found ∙ ap (λ b. or_else n.leaf b) before ∙ ap (λ (x : Node). or_else x.leaf (shallower (seen ns) depth key)) node ∙ ap (λ o. or_else o (shallower (seen ns) depth key)) (sym (seen-at ns key depth from trie at)) ∙ within-own (seen ns) depth key
+    found ∙ ap (λ b. or_else n.leaf b) before ∙ ap (λ (x : Node). or_else x.leaf (shallower (seen ns) depth key)) node
+    ∙ ap (λ o. or_else o (shallower (seen ns) depth key)) (sym (seen-at ns key depth from trie at)) ∙ within-own (seen ns) depth key
 
 -- no leaf is deeper
 beyond : (m : LeafMap) (depth key more : ℕ) → ((e : ℕ) → depth < e → get m (name_at key e) ≡ None) → leaf_within m (depth + more) key ≡ leaf_within m depth key
 beyond m depth key zero h = ap (λ n. leaf_within m n key) (omega arith)
 beyond m depth key (suc k) h =
     let e : depth + suc k ≡ suc (depth + k) = omega arith in
-    ap (λ n. leaf_within m n key) e ∙ within-more m (depth + k) key ∙ or-none (get m (name_at key (suc (depth + k)))) (leaf_within m (depth + k) key) (h (suc (depth + k)) (omega arith)) ∙ beyond m depth key k h
+    ap (λ n. leaf_within m n key) e ∙ within-more m (depth + k) key
+    ∙ or-none (get m (name_at key (suc (depth + k)))) (leaf_within m (depth + k) key) (h (suc (depth + k)) (omega arith)) ∙ beyond m depth key k h
 
 -- where the walk ends, nothing deeper covers the key
-pub within-end : (ns : List Node) (key depth all : ℕ) (r : Option Leaf) → IsTrie ns → place ns key (depth + 1) ≡ None → depth ≤ all → r ≡ leaf_within (seen ns) depth key → r ≡ leaf_within (seen ns) all key
+pub within-end : (ns : List Node) (key depth all : ℕ) (r : Option Leaf) → IsTrie ns → place ns key (depth + 1) ≡ None → depth ≤ all →
+    r ≡ leaf_within (seen ns) depth key → r ≡ leaf_within (seen ns) all key
 within-end ns key depth all r trie off le here =
     let e : depth + (all - depth) ≡ all = omega (arith, le) in
-    here ∙ sym (ap (λ n. leaf_within (seen ns) n key) (sym e) ∙ beyond (seen ns) depth key (all - depth) (λ d lt. seen-off ns key d trie (none-at ns key (depth + 1) d off (omega (arith, lt)))))
+    here ∙ sym (ap (λ n. leaf_within (seen ns) n key) (sym e)
+    ∙ beyond (seen ns) depth key (all - depth) (λ d lt. seen-off ns key d trie (none-at ns key (depth + 1) d off (omega (arith, lt)))))
 
 pub shallower-next : (m : LeafMap) (depth key : ℕ) (r : Option Leaf) → r ≡ leaf_within m depth key → r ≡ shallower m (depth + 1) key
 shallower-next m depth key r h =
@@ -59,4 +64,5 @@ linked-some (suc n) o h e = e
 pub within-nothing : (ns : List Node) (key depth : ℕ) → IsTrie ns → ((e : ℕ) → place ns key e ≡ None) → leaf_within (seen ns) depth key ≡ None
 within-nothing ns key zero trie off = within-none (seen ns) key ∙ seen-off ns key 0 trie (off 0)
 within-nothing ns key (suc d) trie off =
-    within-more (seen ns) d key ∙ or-none (get (seen ns) (name_at key (suc d))) (leaf_within (seen ns) d key) (seen-off ns key (suc d) trie (off (suc d))) ∙ within-nothing ns key d trie off
+    within-more (seen ns) d key ∙ or-none (get (seen ns) (name_at key (suc d))) (leaf_within (seen ns) d key) (seen-off ns key (suc d) trie (off (suc d)))
+    ∙ within-nothing ns key d trie off

@@ -16,7 +16,8 @@ seen-none [] h = refl
 seen-none (n ∷ ns) h = absurd (cc)
 
 -- one node more before them
-pub seen-from : (ns : List Node) (i : ℕ) (n : Node) (m : LeafMap) → i < length ns → n ≡ get_or ns i n → m ≡ seen (drop (i + 1) ns) → rebound m n.name n.leaf ≡ seen (drop i ns)
+pub seen-from : (ns : List Node) (i : ℕ) (n : Node) (m : LeafMap) → i < length ns → n ≡ get_or ns i n → m ≡ seen (drop (i + 1) ns) →
+    rebound m n.name n.leaf ≡ seen (drop i ns)
 seen-from ns i n m h at is =
     let split : drop i ns ≡ n ∷ drop (i + 1) ns = grind (arith, common_steps) in
     rw (split, is) (sym (seen-cons n (drop (i + 1) ns)))

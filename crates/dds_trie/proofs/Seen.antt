@@ -16,10 +16,14 @@ module _ {K X : Type 0} {R : K → K → Ordering} (total : IsTotalOrder R) wher
   pub get-seen : (m : BTreeMap K X) (q : K) → get (from_entries {R = R} m.entries) q ≡ get_by (R q) m
   get-seen m q = get-from_entries total m.entries q ∙ find-lookup q m.entries
 
-  pub insert-seen : IsAntisymmetric R → (m n : BTreeMap K X) (k : K) (v : X) → ((q : K) → tree.get R n q ≡ cond (is_at (R k) q) (Some v) (tree.get R m q)) → from_entries {R = R} n.entries ≡ insert (from_entries m.entries) k v
+  pub insert-seen : IsAntisymmetric R → (m n : BTreeMap K X) (k : K) (v : X) → ((q : K) → tree.get R n q ≡ cond (is_at (R k) q) (Some v) (tree.get R m q)) →
+      from_entries {R = R} n.entries ≡ insert (from_entries m.entries) k v
   insert-seen anti m n k v h =
-      same_map total anti _ _ (λ q. get-seen n q ∙ h q ∙ ap (λ b. cond b (Some v) (tree.get R m q)) ((eq_by_cmp_equiv total).symm k q) ∙ ap (cond (eq_by_cmp R q k) (Some v)) (sym (get-seen m q)) ∙ sym (get-insert total (from_entries m.entries) k v q))
+      same_map total anti _ _ (λ q. get-seen n q ∙ h q ∙ ap (λ b. cond b (Some v) (tree.get R m q)) ((eq_by_cmp_equiv total).symm k q)
+      ∙ ap (cond (eq_by_cmp R q k) (Some v)) (sym (get-seen m q)) ∙ sym (get-insert total (from_entries m.entries) k v q))
 
-  pub remove-seen : IsAntisymmetric R → (m n : BTreeMap K X) (k : K) → ((q : K) → tree.get R n q ≡ cond (is_at (R k) q) None (tree.get R m q)) → from_entries {R = R} n.entries ≡ remove (from_entries m.entries) k
+  pub remove-seen : IsAntisymmetric R → (m n : BTreeMap K X) (k : K) → ((q : K) → tree.get R n q ≡ cond (is_at (R k) q) None (tree.get R m q)) →
+      from_entries {R = R} n.entries ≡ remove (from_entries m.entries) k
   remove-seen anti m n k h =
-      same_map total anti _ _ (λ q. get-seen n q ∙ h q ∙ ap (λ b. cond b None (tree.get R m q)) ((eq_by_cmp_equiv total).symm k q) ∙ ap (cond (eq_by_cmp R q k) None) (sym (get-seen m q)) ∙ sym (get-remove total (from_entries m.entries) k q))
+      same_map total anti _ _ (λ q. get-seen n q ∙ h q ∙ ap (λ b. cond b None (tree.get R m q)) ((eq_by_cmp_equiv total).symm k q)
+      ∙ ap (cond (eq_by_cmp R q k) None) (sym (get-seen m q)) ∙ sym (get-remove total (from_entries m.entries) k q))

@@ -1,5 +1,6 @@
 -- Laws of the walk by a key's bits.
-use Rattle.std.proofs.Common.{◌≡◌, ℕ, ◌+◌, ◌-◌, ◌*◌, ◌%◌, ◌/◌, ◌^◌, ◌==◌, ◌<◌, ◌≤◌, List, [], ◌∷◌, length, get_or, Some, None, refl, ap, sym, ◌∙◌, zero, suc, subst, arith}
+use Rattle.std.proofs.Common.{◌≡◌, ℕ, ◌+◌, ◌-◌, ◌*◌, ◌%◌, ◌/◌, ◌^◌, ◌==◌, ◌<◌, ◌≤◌, List, [], ◌∷◌, length, get_or, Some, None, refl, ap}
+use Rattle.std.proofs.Common.{sym, ◌∙◌, zero, suc, subst, arith}
 use Rattle.std.proofs.lemmas.Bool.Decides.{nat_tests}
 use Rattle.std.proofs.lemmas.Nat.{mod-pow-add}
 use Rattle.std.proofs.Math.Pow.{field, mod-mod-pow}
@@ -22,7 +23,8 @@ node-at [] i x h = absurd (omega (arith, h))
 node-at (n ∷ ns) zero x h = refl
 node-at (n ∷ ns) (suc i) x h = node-at ns i x (omega (arith, h))
 
-pub place-next : (ns : List Node) (key depth from : ℕ) → place ns key depth ≡ Some from → place ns key (depth + 1) ≡ linked (child (get_or ns from blank) (is_high key depth))
+pub place-next : (ns : List Node) (key depth from : ℕ) → place ns key depth ≡ Some from →
+    place ns key (depth + 1) ≡ linked (child (get_or ns from blank) (is_high key depth))
 place-next ns key depth from h =
     let e : depth + 1 ≡ suc depth = omega arith in
     ap (place ns key) e ∙ place-more ns key depth ∙ ap (λ o. next ns o (is_high key depth)) h
@@ -45,7 +47,8 @@ none-at ns key depth want h le =
 place-alike : (ns : List Node) (a b depth : ℕ) → ((j : ℕ) → j < depth → is_high a j ≡ is_high b j) → place ns a depth ≡ place ns b depth
 place-alike ns a b zero h = place-first ns a ∙ sym (place-first ns b)
 place-alike ns a b (suc d) h =
-    place-more ns a d ∙ ap (λ o. next ns o (is_high a d)) (place-alike ns a b d (λ j lt. h j (omega (arith, lt)))) ∙ ap (next ns (place ns b d)) (h d (omega arith)) ∙ sym (place-more ns b d)
+    place-more ns a d ∙ ap (λ o. next ns o (is_high a d)) (place-alike ns a b d (λ j lt. h j (omega (arith, lt))))
+    ∙ ap (next ns (place ns b d)) (h d (omega arith)) ∙ sym (place-more ns b d)
 
 bit-of-low : (key depth j : ℕ) → j < depth → key % 2 ^ depth / 2 ^ j % 2 ≡ key / 2 ^ j % 2
 bit-of-low key depth j lt =
@@ -67,7 +70,8 @@ name-next a b d e h high =
     let bit : a / 2 ^ d % 2 ≡ b / 2 ^ d % 2 = bits-alike (a / 2 ^ d) (b / 2 ^ d) (high ∙ ap (is_high b) (sym depths)) in
     let s : suc d ≡ 1 + d = omega arith in
     let t : d + 1 ≡ 1 + d = omega arith in
-    ap (name_at a) s ∙ ap (λ n. name_of n (1 + d)) (mod-pow-add a d-one d ∙ ap (λ n. n * 2 ^ d + a % 2 ^ d) bit ∙ ap (λ n. b / 2 ^ d % 2 * 2 ^ d + n) low ∙ sym (mod-pow-add b d-one d)) ∙ ap (name_at b) (sym t))
+    ap (name_at a) s ∙ ap (λ n. name_of n (1 + d)) (mod-pow-add a d-one d ∙ ap (λ n. n * 2 ^ d + a % 2 ^ d) bit ∙ ap (λ n. b / 2 ^ d % 2 * 2 ^ d + n) low
+    ∙ sym (mod-pow-add b d-one d)) ∙ ap (name_at b) (sym t))
   where
     d-one : ℕ
     d-one = 1

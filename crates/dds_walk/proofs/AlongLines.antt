@@ -1,5 +1,6 @@
 -- The lines of a script along the steps that a walk alone makes: both walks are the same.
-use Rattle.std.proofs.Common.{◌≡◌, ℕ, ◌+◌, ◌<◌, ◌≤◌, ◌&&◌, ◌||◌, Bool, true, false, List, [], ◌∷◌, ◌++◌, Option, Some, None, length, zero, suc, refl, sym, ap, subst, ◌∙◌, arith}
+use Rattle.std.proofs.Common.{◌≡◌, ℕ, ◌+◌, ◌<◌, ◌≤◌, ◌&&◌, ◌||◌, Bool, true, false, List, [], ◌∷◌, ◌++◌, Option, Some, None, length, zero}
+use Rattle.std.proofs.Common.{suc, refl, sym, ap, subst, ◌∙◌, arith}
 use Rattle.std.specs.Prelude.{◌==◌, is_some, slice_get, slice_index_or, slice_set, if◌then◌else◌}
 use Rattle.std.specs.List.{AllByRecursion, list_any}
 use Rattle.std.proofs.lemmas.Bool.Decides.{nat_tests}
@@ -21,7 +22,9 @@ use Rattle.dds_walk.proofs.Counted.{AreCounted, counted-here}
 use Rattle.dds_walk.proofs.Picked.{both-true}
 use Rattle.dds_walk.proofs.Walked.{IsWalked, walked-first, walked-line}
 use Rattle.dds_walk.specs.Picking.{begun}
-use Rattle.dds_walk.specs.Walk.{Moved, call_alone, call_along, call_line, call_with, counted, ended, events_said, first_walk, has_event, is_asked, line_done, lines_done, makes_call, moves, played, plays_rest, plays_to, quiet_said, says, show_line, step_line, stop_line, transcript, tries}
+use Rattle.dds_walk.specs.Walk.{Moved, call_alone, call_along, call_line, call_with, counted, ended, events_said, first_walk, has_event}
+use Rattle.dds_walk.specs.Walk.{is_asked, line_done, lines_done, makes_call, moves, played, plays_rest, plays_to, quiet_said, says}
+use Rattle.dds_walk.specs.Walk.{show_line, step_line, stop_line, transcript, tries}
 use Rattle.dds_walk.specs.declared.walk.Walk.{Walk}
 use Rattle.dds_cluster.specs.Trace.{is_possible}
 use Rattle.dds_cluster.specs.declared.step.Input.TheVariants as input
@@ -112,7 +115,8 @@ call-made w caller call s rest a b =
     ap (λ x. by_asked w caller call (s ∷ rest) x (list_any (makes_call caller call) (s ∷ rest))) a
     ∙ ap (λ x. by_asked w caller call (s ∷ rest) false (x || list_any (makes_call caller call) rest)) b
     ∙ ap
-    (λ (x : Bool). if x then record (played (record w { rest = None }) s) { rest = Some rest } else plays_to caller call rest (played (record w { rest = None }) s))
+    (λ (x : Bool). if x then record (played (record w { rest = None }) s) { rest = Some rest } else plays_to caller call rest
+    (played (record w { rest = None }) s))
     b
 
 -- a caller is there

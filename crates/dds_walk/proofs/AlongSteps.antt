@@ -11,7 +11,8 @@ use Rattle.dds_walk.proofs.Moves.{moves-over, moves-suc}
 use Rattle.dds_walk.proofs.Picked.{AreSteps, both-true, steps-append, steps-first, steps-picked}
 use Rattle.dds_walk.proofs.Walked.{tries-alone}
 use Rattle.dds_walk.specs.Picking.{all_handles, events, first_of, handles, node_at, posts}
-use Rattle.dds_walk.specs.Walk.{Moved, event, event_by, lead_behind, lead_in, left, makes_by, moves, on_event, or_stays, picked_in, picks_in, played, same_input, same_order, same_step, tries}
+use Rattle.dds_walk.specs.Walk.{Moved, event, event_by, lead_behind, lead_in, left, makes_by, moves, on_event, or_stays, picked_in}
+use Rattle.dds_walk.specs.Walk.{picks_in, played, same_input, same_order, same_step, tries}
 use Rattle.dds_walk.specs.declared.walk.Lead.{Lead}
 use Rattle.dds_walk.specs.declared.walk.Lead.TheVariants.{Next}
 use Rattle.dds_walk.specs.declared.walk.Walk.{Walk}
@@ -61,7 +62,8 @@ goes-tries callers w s e silent n =
     subst (λ (v : Walk). Goes callers w v (λ rest. tries (along w rest) s) (along v)) (sym is)
     (goes-step callers w x x s (λ rest. tries (along w rest) s) (λ (v : Walk). v) (along x) refl refl silent
     (λ rest. ap (λ (l : Lead). or_stays (along w (s ∷ rest)) (makes_by (along w (s ∷ rest)) s l)) (lead-first s rest))
-    (goes-nowhere callers x x (along x) (along x) refl refl none (numbered-played callers (left w) s silent (record { size = n.size; asked = n.asked })) (λ tail. refl)))
+    (goes-nowhere callers x x (along x) (along x) refl refl none (numbered-played callers (left w) s silent (record { size = n.size; asked = n.asked }))
+    (λ tail. refl)))
 
 -- each event is no call
 no-call-posts : (b at : ℕ) (boxes : List (List Message)) → AreSteps IsNoCall (posts b at boxes)

@@ -16,7 +16,8 @@ use Rattle.dds_states.specs.declared.library_state.LibraryState.{LibraryState}
 use Rattle.dds_walk.specs.Agenda.{link_of, link_to}
 use Rattle.dds_walk.specs.Walk.{node_of}
 use Rattle.dds_cluster.specs.Trace.{adds, is_possible, next}
-use Rattle.dds_cluster.specs.Turn.{at_library, at_node, brick_does, call_at, handle, input_at, library_does, order_at, points_made, post, stop_at, stop_library, tells, turn}
+use Rattle.dds_cluster.specs.Turn.{at_library, at_node, brick_does, call_at, handle, input_at, library_does, order_at, points_made, post}
+use Rattle.dds_cluster.specs.Turn.{stop_at, stop_library, tells, turn}
 use Rattle.dds_cluster.specs.World.{World, brick_at, emptied, library_at, link, outbox, place, set_link}
 use Rattle.dds_cluster.specs.declared.step.Input.{Input}
 use Rattle.dds_cluster.specs.declared.step.Input.TheVariants as input
@@ -45,7 +46,10 @@ set-at d [] at v = refl
 set-at d (x ∷ xs) zero v = refl
 set-at d (x ∷ xs) (suc at) v = ap (λ l. x ∷ l) (set-at d xs at v)
 
-set-row : (xs : List (List (List Message))) (at to : ℕ) (v : List Message) → slice_set xs at (slice_set (slice_index_or xs at []) to v) ≡ slice_set xs at (slice_set (slice_index_or xs at []) to (slice_index_or (slice_index_or (slice_set xs at (slice_set (slice_index_or xs at []) to v)) at []) to []))
+set-row : (xs : List (List (List Message))) (at to : ℕ) (v : List Message) →
+    slice_set xs at (slice_set (slice_index_or xs at []) to v)
+    ≡ slice_set xs at (slice_set (slice_index_or xs at []) to
+    (slice_index_or (slice_index_or (slice_set xs at (slice_set (slice_index_or xs at []) to v)) at []) to []))
 set-row [] at to v = refl
 set-row (x ∷ xs) zero to v = ap (λ r. r ∷ xs) (set-at [] x to v)
 set-row (x ∷ xs) (suc at) to v = ap (λ l. x ∷ l) (set-row xs at to v)
@@ -82,7 +86,8 @@ brick-place w node x =
 
 library-place : (w : World) (node : ℕ) (x : LibraryState) → library_at w node ≡ Some x → place w node ≡ length w.bricks + (node - 64)
 library-place w node x =
-    elim (nat_lt node 64) as (λ c. (if c then None else slice_get w.libraries (node - 64)) ≡ Some x → (if c then node else length w.bricks + (node - 64)) ≡ length w.bricks + (node - 64)) [
+    elim (nat_lt node 64) as (λ c. (if c then None else slice_get w.libraries (node - 64)) ≡ Some x →
+    (if c then node else length w.bricks + (node - 64)) ≡ length w.bricks + (node - 64)) [
       | true ↦ λ e. absurd (cc)
       | false ↦ λ e. refl
     ]
@@ -96,30 +101,39 @@ record IsLinked (to : Option (ℕ × ℕ)) (w u : World) : Type 0 where
 not-linked : (w : World) → IsLinked None w w
 not-linked w = record { bricks = refl; outboxes = refl; links = refl }
 
-brick-changes : (to : Option (ℕ × ℕ)) (w u : World) (node : ℕ) (t : BrickTurn) (made : List Made) → IsLinked to w u → place w node ≡ node → IsChanged (place w node) to w (brick_does u node t made).world
+brick-changes : (to : Option (ℕ × ℕ)) (w u : World) (node : ℕ) (t : BrickTurn) (made : List Made) → IsLinked to w u → place w node ≡ node →
+    IsChanged (place w node) to w (brick_does u node t made).world
 brick-changes to w u node t made l p =
     record { outboxes = set-in (place w node) node w.outboxes u.outboxes _ p l.outboxes; links = l.links }
 
-library-changes : (to : Option (ℕ × ℕ)) (w u : World) (node : ℕ) (t : LibraryTurn) → IsLinked to w u → place w node ≡ length w.bricks + (node - 64) → IsChanged (place w node) to w (library_does u node t).world
+library-changes : (to : Option (ℕ × ℕ)) (w u : World) (node : ℕ) (t : LibraryTurn) → IsLinked to w u → place w node ≡ length w.bricks + (node - 64) →
+    IsChanged (place w node) to w (library_does u node t).world
 library-changes to w u node t l p =
-    record { outboxes = set-in (place w node) (length u.bricks + (node - 64)) w.outboxes u.outboxes _ (p ∙ ap (λ (bs : List BrickState). length bs + (node - 64)) (sym l.bricks)) l.outboxes; links = l.links }
+    record {
+      outboxes = set-in (place w node) (length u.bricks + (node - 64)) w.outboxes u.outboxes _
+          (p ∙ ap (λ (bs : List BrickState). length bs + (node - 64)) (sym l.bricks)) l.outboxes;
+      links = l.links;
+    }
 
 linked : (to : Option (ℕ × ℕ)) (w u : World) (at : ℕ) → IsLinked to w u → IsChanged at to w u
 linked to w u at l =
     record { outboxes = subst (IsSetAt at w.outboxes) (sym l.outboxes) (same-at at w.outboxes); links = l.links }
 
-at-library-changes : (to : Option (ℕ × ℕ)) (w u : World) (node from : NodeNo) (m : Letter) (o : Option LibraryState) → IsLinked to w u → library_at w node ≡ o → IsChanged (place w node) to w (at_library u node from m o).world
+at-library-changes : (to : Option (ℕ × ℕ)) (w u : World) (node from : NodeNo) (m : Letter) (o : Option LibraryState) → IsLinked to w u →
+    library_at w node ≡ o → IsChanged (place w node) to w (at_library u node from m o).world
 at-library-changes to w u node from m None l e = linked to w u (place w node) l
 at-library-changes to w u node from m (Some x) l e =
     library-changes to w u node (library_turn x from m) l (library-place w node x e)
 
-at-node-changes : (to : Option (ℕ × ℕ)) (w u : World) (at : ℕ) (node from : NodeNo) (m : Letter) (o : Option BrickState) → IsLinked to w u → library_at u node ≡ library_at w node → brick_at w node ≡ o → IsChanged (place w node) to w (at_node u at node from m o).world
+at-node-changes : (to : Option (ℕ × ℕ)) (w u : World) (at : ℕ) (node from : NodeNo) (m : Letter) (o : Option BrickState) → IsLinked to w u →
+    library_at u node ≡ library_at w node → brick_at w node ≡ o → IsChanged (place w node) to w (at_node u at node from m o).world
 at-node-changes to w u at node from m None l k e =
     at-library-changes to w u node from m (library_at u node) l (sym k)
 at-node-changes to w u at node from m (Some x) l k e =
     brick-changes to w u node (brick_turn x from m) (points_made at m (brick_turn x from m).out.points) l (brick-place w node x e)
 
-handle-changes : (w : World) (at : ℕ) (node from : NodeNo) (ms : List Message) → IsChanged (place w node) (Some (place w from, place w node)) w (handle w at node from ms).world
+handle-changes : (w : World) (at : ℕ) (node from : NodeNo) (ms : List Message) →
+    IsChanged (place w node) (Some (place w from, place w node)) w (handle w at node from ms).world
 handle-changes w at node from [] = unchanged (place w node) (Some (place w from, place w node)) w
 handle-changes w at node from (m ∷ ms) =
     at-node-changes (Some (place w from, place w node)) w (set_link w from node ms) at node from m.letter (brick_at w node)
@@ -130,12 +144,14 @@ post-changes w node [] = unchanged (place w node) None w
 post-changes w node (m ∷ ms) =
     record { outboxes = set-at [] w.outboxes (place w node) ms; links = set-row w.links (place w node) (place w m.to) (link w node m.to ++ m ∷ []) }
 
-call-changes : (w : World) (node : NodeNo) (caller : CallerNo) (call : CallNo) (op : Op) (o : Option LibraryState) → library_at w node ≡ o → IsChanged (place w node) None w (call_at w node caller call op o).world
+call-changes : (w : World) (node : NodeNo) (caller : CallerNo) (call : CallNo) (op : Op) (o : Option LibraryState) → library_at w node ≡ o →
+    IsChanged (place w node) None w (call_at w node caller call op o).world
 call-changes w node caller call op None e = unchanged (place w node) None w
 call-changes w node caller call op (Some x) e =
     library-changes None w w node (library_input x caller call op) (not-linked w) (library-place w node x e)
 
-order-changes : (w : World) (node : NodeNo) (order : Order) (o : Option BrickState) → brick_at w node ≡ o → IsChanged (place w node) None w (order_at w node order o).world
+order-changes : (w : World) (node : NodeNo) (order : Order) (o : Option BrickState) → brick_at w node ≡ o →
+    IsChanged (place w node) None w (order_at w node order o).world
 order-changes w node order None e = unchanged (place w node) None w
 order-changes w node order (Some x) e =
     brick-changes None w w node (brick_input x order) [] (not-linked w) (brick-place w node x e)
@@ -145,9 +161,14 @@ input-changes w node (input.Call caller call op) = call-changes w node caller ca
 input-changes w node (input.Order order) = order-changes w node order (brick_at w node) refl
 
 -- notices take the place of what the outbox held
-tells-changes : (w u : World) (node : NodeNo) → u.outboxes ≡ w.outboxes → u.links ≡ w.links → place w node ≡ place u node → IsChanged (place w node) None w (tells u node)
+tells-changes : (w u : World) (node : NodeNo) → u.outboxes ≡ w.outboxes → u.links ≡ w.links → place w node ≡ place u node →
+    IsChanged (place w node) None w (tells u node)
 tells-changes w u node a b p =
-    record { outboxes = subst (IsSetAt (place w node) w.outboxes) (sym (set-twice u.outboxes (place u node) [] _)) (set-in (place w node) (place u node) w.outboxes u.outboxes _ p a); links = b }
+    record {
+      outboxes = subst (IsSetAt (place w node) w.outboxes) (sym (set-twice u.outboxes (place u node) [] _))
+          (set-in (place w node) (place u node) w.outboxes u.outboxes _ p a);
+      links = b;
+    }
 
 stop-library-changes : (w : World) (node : NodeNo) (o : Option LibraryState) → IsChanged (place w node) None w (stop_library w node o)
 stop-library-changes w node None = unchanged (place w node) None w
@@ -166,7 +187,9 @@ turn-changes at w (step.Handle node from) = handle-changes w at node from (link 
 turn-changes at w (step.Post node) = post-changes w node (outbox w node)
 turn-changes at w (step.Stop node) = stop-changes w node (brick_at w node)
 
-changes-if : (t : Trace) (s : Step) (possible : Bool) → IsChanged (place t.world (node_of s)) (link_of t.world s) t.world (if possible then adds t s (turn t.steps t.world s) else record t { steps = t.steps + 1 }).world
+changes-if : (t : Trace) (s : Step) (possible : Bool) →
+    IsChanged (place t.world (node_of s)) (link_of t.world s) t.world
+    (if possible then adds t s (turn t.steps t.world s) else record t { steps = t.steps + 1 }).world
 changes-if t s true = turn-changes t.steps t.world s
 changes-if t s false = unchanged (place t.world (node_of s)) (link_of t.world s) t.world
 

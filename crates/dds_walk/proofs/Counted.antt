@@ -28,7 +28,8 @@ counted-get (x ∷ cs) (n ∷ ns) zero c a e = subst (λ (y : Caller). y.least �
 counted-get (x ∷ cs) (n ∷ ns) (suc i) c a e = counted-get cs ns i c a.1 e
 
 -- another caller stands at its place
-pub counted-set : (cs : List Caller) (ns : List ℕ) (i : ℕ) (c d : Caller) → AreCounted cs ns → slice_get cs i ≡ Some c → d.least ≤ slice_index_or ns i 0 → AreCounted (slice_set cs i d) ns
+pub counted-set : (cs : List Caller) (ns : List ℕ) (i : ℕ) (c d : Caller) → AreCounted cs ns → slice_get cs i ≡ Some c → d.least ≤ slice_index_or ns i 0 →
+    AreCounted (slice_set cs i d) ns
 counted-set [] ns i c d a e h = absurd (cc)
 counted-set (x ∷ cs) [] i c d a e h = absurd a
 counted-set (x ∷ cs) (n ∷ ns) zero c d a e h = (h, a.1)
@@ -43,7 +44,8 @@ counted-more (c ∷ cs) (n ∷ ns) zero a = (omega (arith, a.0), a.1)
 counted-more (c ∷ cs) (n ∷ ns) (suc i) a = (a.0, counted-more cs ns i a.1)
 
 -- what is then counted at its place
-pub counted-here : (cs : List Caller) (ns : List ℕ) (i : ℕ) (c : Caller) → AreCounted cs ns → slice_get cs i ≡ Some c → slice_index_or (slice_set ns i (slice_index_or ns i 0 + 1)) i 0 ≡ slice_index_or ns i 0 + 1
+pub counted-here : (cs : List Caller) (ns : List ℕ) (i : ℕ) (c : Caller) → AreCounted cs ns → slice_get cs i ≡ Some c →
+    slice_index_or (slice_set ns i (slice_index_or ns i 0 + 1)) i 0 ≡ slice_index_or ns i 0 + 1
 counted-here [] ns i c a e = absurd (cc)
 counted-here (x ∷ cs) [] i c a e = absurd a
 counted-here (x ∷ cs) (n ∷ ns) zero c a e = refl
@@ -61,7 +63,8 @@ closed-all : (cs : List Caller) (ns : List ℕ) (rs : List Replied) → AreCount
 closed-all cs ns [] a = a
 closed-all cs ns (r ∷ rs) a = closed-all (closed_by cs r) ns rs (closed-by cs ns r a)
 
-counted-if : (t : Trace) (x : Step) (ns : List ℕ) (possible : Bool) → AreCounted t.callers ns → AreCounted (opened_by t.callers x) ns → AreCounted (if possible then adds t x (turn t.steps t.world x) else record t { steps = t.steps + 1 }).callers ns
+counted-if : (t : Trace) (x : Step) (ns : List ℕ) (possible : Bool) → AreCounted t.callers ns → AreCounted (opened_by t.callers x) ns →
+    AreCounted (if possible then adds t x (turn t.steps t.world x) else record t { steps = t.steps + 1 }).callers ns
 counted-if t x ns true a opened = closed-all (opened_by t.callers x) ns (turn t.steps t.world x).replies opened
 counted-if t x ns false a opened = a
 

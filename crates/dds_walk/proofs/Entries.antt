@@ -16,7 +16,8 @@ use Rattle.dds_cluster.specs.World.{World, opening_world}
 use Rattle.dds_cluster.specs.declared.step.Message.{Message}
 
 -- the events
-first-is : (b : ℕ) (slot : Slot) (o : Option Message) (es : List Event) (fs : List Entry) → es ≡ map (event_of b) fs → first_of (step_in b slot) o ++ es ≡ map (event_of b) (option_to_list (entry_of slot o) ++ fs)
+first-is : (b : ℕ) (slot : Slot) (o : Option Message) (es : List Event) (fs : List Entry) → es ≡ map (event_of b) fs →
+    first_of (step_in b slot) o ++ es ≡ map (event_of b) (option_to_list (entry_of slot o) ++ fs)
 first-is b slot None es fs h = h
 first-is b slot (Some m) es fs h = ap (λ l. event_of b (record { number = m.number; slot = slot }) ∷ l) h
 
@@ -28,7 +29,8 @@ posts-are b at (box ∷ boxes) =
 handles-are : (b source at : ℕ) (links : List (List Message)) → handles b (node_at b source) at links ≡ map (event_of b) (row_entries (Link source) at links)
 handles-are b source at [] = refl
 handles-are b source at (ms ∷ links) =
-    first-is b (Link source at) (slice_get ms 0) (handles b (node_at b source) (at + 1) links) (row_entries (Link source) (at + 1) links) (handles-are b source (at + 1) links)
+    first-is b (Link source at) (slice_get ms 0) (handles b (node_at b source) (at + 1) links) (row_entries (Link source) (at + 1) links)
+    (handles-are b source (at + 1) links)
 
 both-are : (b : ℕ) (es fs : List Event) (gs hs : List Entry) → es ≡ map (event_of b) gs → fs ≡ map (event_of b) hs → es ++ fs ≡ map (event_of b) (gs ++ hs)
 both-are b es fs gs hs p q = ap (λ l. l ++ fs) p ∙ ap (λ l. map (event_of b) gs ++ l) q ∙ sym (map-append (event_of b) gs hs)
@@ -36,29 +38,34 @@ both-are b es fs gs hs p q = ap (λ l. l ++ fs) p ∙ ap (λ l. map (event_of b)
 all-handles-are : (b at : ℕ) (rows : List (List (List Message))) → all_handles b at rows ≡ map (event_of b) (link_entries at rows)
 all-handles-are b at [] = refl
 all-handles-are b at (row ∷ rows) =
-    both-are b (handles b (node_at b at) 0 row) (all_handles b (at + 1) rows) (row_entries (Link at) 0 row) (link_entries (at + 1) rows) (handles-are b at 0 row) (all-handles-are b (at + 1) rows)
+    both-are b (handles b (node_at b at) 0 row) (all_handles b (at + 1) rows) (row_entries (Link at) 0 row) (link_entries (at + 1) rows)
+    (handles-are b at 0 row) (all-handles-are b (at + 1) rows)
 
 pub events-are : (w : World) → events w ≡ map (event_of (length w.bricks)) (entries w)
 events-are w =
-    both-are (length w.bricks) (posts (length w.bricks) 0 w.outboxes) (all_handles (length w.bricks) 0 w.links) (row_entries Outbox 0 w.outboxes) (link_entries 0 w.links) (posts-are (length w.bricks) 0 w.outboxes) (all-handles-are (length w.bricks) 0 w.links)
+    both-are (length w.bricks) (posts (length w.bricks) 0 w.outboxes) (all_handles (length w.bricks) 0 w.links) (row_entries Outbox 0 w.outboxes)
+    (link_entries 0 w.links) (posts-are (length w.bricks) 0 w.outboxes) (all-handles-are (length w.bricks) 0 w.links)
 
 -- what is true of the entries of each slot
 all-append : (P : Entry → Type 0) (es fs : List Entry) → AllByRecursion P es → AllByRecursion P fs → AllByRecursion P (es ++ fs)
 all-append P [] fs a b = b
 all-append P (e ∷ es) fs a b = (a.0, all-append P es fs a.1 b)
 
-all-first : (P : Entry → Type 0) (slot : Slot) (o : Option Message) → ((n : ℕ) → P (record { number = n; slot = slot })) → AllByRecursion P (option_to_list (entry_of slot o))
+all-first : (P : Entry → Type 0) (slot : Slot) (o : Option Message) → ((n : ℕ) → P (record { number = n; slot = slot })) →
+    AllByRecursion P (option_to_list (entry_of slot o))
 all-first P slot None h = tt
 all-first P slot (Some m) h = (h m.number, tt)
 
-row-all : (P : Entry → Type 0) (slot : ℕ → Slot) (at : ℕ) (rest : List (List Message)) → ((c n : ℕ) → at ≤ c → P (record { number = n; slot = slot c })) → AllByRecursion P (row_entries slot at rest)
+row-all : (P : Entry → Type 0) (slot : ℕ → Slot) (at : ℕ) (rest : List (List Message)) → ((c n : ℕ) → at ≤ c → P (record { number = n; slot = slot c })) →
+    AllByRecursion P (row_entries slot at rest)
 row-all P slot at [] h = tt
 row-all P slot at (ms ∷ rest) h =
     all-append P (option_to_list (entry_of (slot at) (slice_get ms 0))) (row_entries slot (at + 1) rest)
     (all-first P (slot at) (slice_get ms 0) (λ n. h at n (omega arith)))
     (row-all P slot (at + 1) rest (λ c n l. h c n (omega (arith, l))))
 
-links-all : (P : Entry → Type 0) (at : ℕ) (rows : List (List (List Message))) → ((r c n : ℕ) → at ≤ r → P (record { number = n; slot = Link r c })) → AllByRecursion P (link_entries at rows)
+links-all : (P : Entry → Type 0) (at : ℕ) (rows : List (List (List Message))) → ((r c n : ℕ) → at ≤ r → P (record { number = n; slot = Link r c })) →
+    AllByRecursion P (link_entries at rows)
 links-all P at [] h = tt
 links-all P at (row ∷ rows) h =
     all-append P (row_entries (Link at) 0 row) (link_entries (at + 1) rows)
@@ -81,11 +88,14 @@ sorted-first : (slot : Slot) (o : Option Message) → IsPlaced (option_to_list (
 sorted-first slot None = tt
 sorted-first slot (Some m) = (tt, tt)
 
-row-placed : (slot : ℕ → Slot) (at : ℕ) (rest : List (List Message)) → ((c d : ℕ) → c ≤ d → slot_precedes (slot d) (slot c) ≡ false) → IsPlaced (row_entries slot at rest)
+row-placed : (slot : ℕ → Slot) (at : ℕ) (rest : List (List Message)) → ((c d : ℕ) → c ≤ d → slot_precedes (slot d) (slot c) ≡ false) →
+    IsPlaced (row_entries slot at rest)
 row-placed slot at [] h = tt
 row-placed slot at (ms ∷ rest) h =
-    sorted-append (option_to_list (entry_of (slot at) (slice_get ms 0))) (row_entries slot (at + 1) rest) (sorted-first (slot at) (slice_get ms 0)) (row-placed slot (at + 1) rest h)
-    (all-first (NoneBefore (row_entries slot (at + 1) rest)) (slot at) (slice_get ms 0) (λ n. row-all (λ y. slot_precedes y.slot (slot at) ≡ false) slot (at + 1) rest (λ c m l. h at c (omega (arith, l)))))
+    sorted-append (option_to_list (entry_of (slot at) (slice_get ms 0))) (row_entries slot (at + 1) rest) (sorted-first (slot at) (slice_get ms 0))
+    (row-placed slot (at + 1) rest h)
+    (all-first (NoneBefore (row_entries slot (at + 1) rest)) (slot at) (slice_get ms 0)
+    (λ n. row-all (λ y. slot_precedes y.slot (slot at) ≡ false) slot (at + 1) rest (λ c m l. h at c (omega (arith, l)))))
 
 outbox-order : (c d : ℕ) → c ≤ d → slot_precedes (Outbox d) (Outbox c) ≡ false
 outbox-order c d l = grind (arith, nat_tests, l)
@@ -100,12 +110,14 @@ links-placed : (at : ℕ) (rows : List (List (List Message))) → IsPlaced (link
 links-placed at [] = tt
 links-placed at (row ∷ rows) =
     sorted-append (row_entries (Link at) 0 row) (link_entries (at + 1) rows) (row-placed (Link at) 0 row (link-order at)) (links-placed (at + 1) rows)
-    (row-all (NoneBefore (link_entries (at + 1) rows)) (Link at) 0 row (λ c n l. links-all (λ y. slot_precedes y.slot (Link at c) ≡ false) (at + 1) rows (λ r d m k. later-link at r c d (omega (arith, k)))))
+    (row-all (NoneBefore (link_entries (at + 1) rows)) (Link at) 0 row
+    (λ c n l. links-all (λ y. slot_precedes y.slot (Link at c) ≡ false) (at + 1) rows (λ r d m k. later-link at r c d (omega (arith, k)))))
 
 pub entries-placed : (w : World) → IsPlaced (entries w)
 entries-placed w =
     sorted-append (row_entries Outbox 0 w.outboxes) (link_entries 0 w.links) (row-placed Outbox 0 w.outboxes outbox-order) (links-placed 0 w.links)
-    (row-all (NoneBefore (link_entries 0 w.links)) Outbox 0 w.outboxes (λ c n l. links-all (λ y. slot_precedes y.slot (Outbox c) ≡ false) 0 w.links (λ r d m k. refl)))
+    (row-all (NoneBefore (link_entries 0 w.links)) Outbox 0 w.outboxes
+    (λ c n l. links-all (λ y. slot_precedes y.slot (Outbox c) ≡ false) 0 w.links (λ r d m k. refl)))
 
 -- before the first step
 row-none : (slot : ℕ → Slot) (at n : ℕ) → row_entries slot at (replicate n []) ≡ []
@@ -119,4 +131,5 @@ links-none at (suc n) m =
 
 pub entries-none : (o : OpeningOf) → entries (opening_world o) ≡ []
 entries-none o =
-    ap (λ l. l ++ link_entries 0 (opening_world o).links) (row-none Outbox 0 (o.bricks + o.libraries)) ∙ links-none 0 (o.bricks + o.libraries) (o.bricks + o.libraries)
+    ap (λ l. l ++ link_entries 0 (opening_world o).links) (row-none Outbox 0 (o.bricks + o.libraries))
+    ∙ links-none 0 (o.bricks + o.libraries) (o.bricks + o.libraries)

@@ -7,7 +7,9 @@ use Rattle.dds_history.specs.Map.{Map}
 use Rattle.dds_transcript.specs.declared.report_line.ReportLine.{ReportLine}
 use Rattle.dds_walk.specs.Walk.{leaf_line, leaf_lines}
 
-pub leaves-more : (pairs : Map) (brick : NodeNo) (lines new whole : List ReportLine) (ls : List Leaf) (i : ℕ) (x : Leaf) (y : ReportLine) → i < length ls → x ≡ get_or ls i x → y ≡ leaf_line pairs brick x → new ≡ lines ++ y ∷ [] → lines ++ leaf_lines pairs brick (drop i ls) ≡ whole → new ++ leaf_lines pairs brick (drop (i + 1) ls) ≡ whole
+pub leaves-more : (pairs : Map) (brick : NodeNo) (lines new whole : List ReportLine) (ls : List Leaf) (i : ℕ) (x : Leaf) (y : ReportLine) → i < length ls →
+    x ≡ get_or ls i x → y ≡ leaf_line pairs brick x → new ≡ lines ++ y ∷ [] → lines ++ leaf_lines pairs brick (drop i ls) ≡ whole →
+    new ++ leaf_lines pairs brick (drop (i + 1) ls) ≡ whole
 leaves-more pairs brick lines new whole ls i x y h at is pushed so =
     let split : drop i ls ≡ x ∷ drop (i + 1) ls = grind (arith, common_steps) in
     ap (λ n. n ++ leaf_lines pairs brick (drop (i + 1) ls)) (pushed ∙ ap (λ (z : ReportLine). lines ++ z ∷ []) is)

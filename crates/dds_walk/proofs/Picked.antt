@@ -1,5 +1,6 @@
 -- Each event that may be picked is possible.
-use Rattle.std.proofs.Common.{◌≡◌, ℕ, ◌+◌, ◌-◌, ◌<◌, ◌≤◌, Bool, true, false, List, [], ◌∷◌, ◌++◌, Option, Some, None, drop, length, zero, suc, refl, ap, ◌∙◌, arith}
+use Rattle.std.proofs.Common.{◌≡◌, ℕ, ◌+◌, ◌-◌, ◌<◌, ◌≤◌, Bool, true, false, List, [], ◌∷◌, ◌++◌, Option, Some, None, drop, length, zero}
+use Rattle.std.proofs.Common.{suc, refl, ap, ◌∙◌, arith}
 use Rattle.std.specs.Prelude.{◌&&◌, ◌==◌, is_some, nat_lt, position, slice_get, slice_index_or, if◌then◌else◌, IfSome}
 use Rattle.std.proofs.lemmas.Bool.{lt-ltb, le-ltb, ltb-true, ltb-false}
 use Rattle.dds_cluster.proofs.Sizes.{AreRows, IsSized}
@@ -87,7 +88,8 @@ node-there b l w at s few h =
       | false ↦
           λ e.
           rw (node-high b at (ltb-false at b e))
-          (ap (λ c. if c then nat_lt (64 + (at - b)) (length w.bricks) else nat_lt (64 + (at - b) - 64) (length w.libraries)) (le-ltb (64 + (at - b)) 64 (omega arith))
+          (ap (λ c. if c then nat_lt (64 + (at - b)) (length w.bricks) else nat_lt (64 + (at - b) - 64) (length w.libraries))
+          (le-ltb (64 + (at - b)) 64 (omega arith))
           ∙ lt-ltb (64 + (at - b) - 64) (length w.libraries) (omega (arith, ltb-false at b e, h, s.libraries)))
     ] refl
 
@@ -106,29 +108,44 @@ node-place b l w at s few =
     ] refl
 
 -- a first letter of an outbox may be posted
-may-post : (b l : ℕ) (t : Trace) (at : ℕ) (box : List Message) → IsSized b l t.world → b ≤ 64 → at < b + l → slice_index_or t.world.outboxes at [] ≡ box → is_some (slice_get box 0) ≡ true → IsEvent t (step.Post (node_at b at))
+may-post : (b l : ℕ) (t : Trace) (at : ℕ) (box : List Message) → IsSized b l t.world → b ≤ 64 → at < b + l → slice_index_or t.world.outboxes at [] ≡ box →
+    is_some (slice_get box 0) ≡ true → IsEvent t (step.Post (node_at b at))
 may-post b l t at box s few h here some =
     let its : outbox t.world (node_at b at) ≡ box = ap (λ i. slice_index_or t.world.outboxes i []) (node-place b l t.world at s few) ∙ here in
     (both-true (is_node t.world (node_at b at)) (has_first (outbox t.world (node_at b at))) (node-there b l t.world at s few h) (ap has_first its ∙ some), refl)
 
-posts-events : (b l : ℕ) (t : Trace) (at : ℕ) (boxes : List (List Message)) → IsSized b l t.world → b ≤ 64 → drop at t.world.outboxes ≡ boxes → AreSteps (IsEvent t) (posts b at boxes)
+posts-events : (b l : ℕ) (t : Trace) (at : ℕ) (boxes : List (List Message)) → IsSized b l t.world → b ≤ 64 → drop at t.world.outboxes ≡ boxes →
+    AreSteps (IsEvent t) (posts b at boxes)
 posts-events b l t at [] s few e = tt
 posts-events b l t at (box ∷ boxes) s few e =
     steps-append (IsEvent t) (first_of (step.Post (node_at b at)) (slice_get box 0)) (posts b (at + 1) boxes)
-    (steps-first (IsEvent t) (step.Post (node_at b at)) (slice_get box 0) (may-post b l t at box s few (omega (arith, drop-within t.world.outboxes at box boxes e, s.outboxes)) (drop-here t.world.outboxes at box [] boxes e)))
+    (steps-first (IsEvent t) (step.Post (node_at b at)) (slice_get box 0)
+    (may-post b l t at box s few (omega (arith, drop-within t.world.outboxes at box boxes e, s.outboxes))
+    (drop-here t.world.outboxes at box [] boxes e)))
     (posts-events b l t (at + 1) boxes s few (drop-next t.world.outboxes at box boxes e))
 
 -- a first letter of a link may be handled
-may-handle : (b l : ℕ) (t : Trace) (from at : ℕ) (row : List (List Message)) (ms : List Message) → IsSized b l t.world → b ≤ 64 → from < b + l → at < b + l → slice_index_or t.world.links from [] ≡ row → slice_index_or row at [] ≡ ms → is_some (slice_get ms 0) ≡ true → IsEvent t (step.Handle (node_at b at) (node_at b from))
+may-handle : (b l : ℕ) (t : Trace) (from at : ℕ) (row : List (List Message)) (ms : List Message) → IsSized b l t.world → b ≤ 64 → from < b + l → at < b + l →
+    slice_index_or t.world.links from [] ≡ row → slice_index_or row at [] ≡ ms → is_some (slice_get ms 0) ≡ true →
+    IsEvent t (step.Handle (node_at b at) (node_at b from))
 may-handle b l t from at row ms s few f h there here some =
-    let its : link t.world (node_at b from) (node_at b at) ≡ ms = ap (λ i. slice_index_or (slice_index_or t.world.links i []) (place t.world (node_at b at)) []) (node-place b l t.world from s few) ∙ ap (λ i. slice_index_or (slice_index_or t.world.links from []) i []) (node-place b l t.world at s few) ∙ ap (λ (r : List (List Message)). slice_index_or r at []) there ∙ here in
-    (both-true (is_node t.world (node_at b at)) (is_node t.world (node_at b from) && has_first (link t.world (node_at b from) (node_at b at))) (node-there b l t.world at s few h) (both-true (is_node t.world (node_at b from)) (has_first (link t.world (node_at b from) (node_at b at))) (node-there b l t.world from s few f) (ap has_first its ∙ some)), refl)
+    let its : link t.world (node_at b from) (node_at b at) ≡ ms =
+    ap (λ i. slice_index_or (slice_index_or t.world.links i []) (place t.world (node_at b at)) []) (node-place b l t.world from s few)
+    ∙ ap (λ i. slice_index_or (slice_index_or t.world.links from []) i []) (node-place b l t.world at s few)
+    ∙ ap (λ (r : List (List Message)). slice_index_or r at []) there ∙ here in (
+      both-true (is_node t.world (node_at b at)) (is_node t.world (node_at b from) && has_first (link t.world (node_at b from) (node_at b at)))
+          (node-there b l t.world at s few h) (both-true (is_node t.world (node_at b from)) (has_first (link t.world (node_at b from) (node_at b at)))
+          (node-there b l t.world from s few f) (ap has_first its ∙ some)),
+      refl,
+    )
 
-handles-events : (b l : ℕ) (t : Trace) (from at : ℕ) (row links : List (List Message)) → IsSized b l t.world → b ≤ 64 → from < b + l → length row ≡ b + l → slice_index_or t.world.links from [] ≡ row → drop at row ≡ links → AreSteps (IsEvent t) (handles b (node_at b from) at links)
+handles-events : (b l : ℕ) (t : Trace) (from at : ℕ) (row links : List (List Message)) → IsSized b l t.world → b ≤ 64 → from < b + l → length row ≡ b + l →
+    slice_index_or t.world.links from [] ≡ row → drop at row ≡ links → AreSteps (IsEvent t) (handles b (node_at b from) at links)
 handles-events b l t from at row [] s few f long there e = tt
 handles-events b l t from at row (ms ∷ links) s few f long there e =
     steps-append (IsEvent t) (first_of (step.Handle (node_at b at) (node_at b from)) (slice_get ms 0)) (handles b (node_at b from) (at + 1) links)
-    (steps-first (IsEvent t) (step.Handle (node_at b at) (node_at b from)) (slice_get ms 0) (may-handle b l t from at row ms s few f (omega (arith, drop-within row at ms links e, long)) there (drop-here row at ms [] links e)))
+    (steps-first (IsEvent t) (step.Handle (node_at b at) (node_at b from)) (slice_get ms 0)
+    (may-handle b l t from at row ms s few f (omega (arith, drop-within row at ms links e, long)) there (drop-here row at ms [] links e)))
     (handles-events b l t from (at + 1) row links s few f long there (drop-next row at ms links e))
 
 rows-drop : (n i : ℕ) (rows : List (List (List Message))) → AreRows n rows → AreRows n (drop i rows)
@@ -136,14 +153,17 @@ rows-drop n zero rows a = a
 rows-drop n (suc i) [] a = tt
 rows-drop n (suc i) (row ∷ rows) a = rows-drop n i rows a.1
 
-all-handles-events : (b l : ℕ) (t : Trace) (from : ℕ) (rows : List (List (List Message))) → IsSized b l t.world → b ≤ 64 → drop from t.world.links ≡ rows → AreRows (b + l) rows → AreSteps (IsEvent t) (all_handles b from rows)
+all-handles-events : (b l : ℕ) (t : Trace) (from : ℕ) (rows : List (List (List Message))) → IsSized b l t.world → b ≤ 64 → drop from t.world.links ≡ rows →
+    AreRows (b + l) rows → AreSteps (IsEvent t) (all_handles b from rows)
 all-handles-events b l t from [] s few e a = tt
 all-handles-events b l t from (row ∷ rows) s few e a =
     steps-append (IsEvent t) (handles b (node_at b from) 0 row) (all_handles b (from + 1) rows)
-    (handles-events b l t from 0 row row s few (omega (arith, drop-within t.world.links from row rows e, s.links)) a.0 (drop-here t.world.links from row [] rows e) refl)
+    (handles-events b l t from 0 row row s few (omega (arith, drop-within t.world.links from row rows e, s.links)) a.0
+    (drop-here t.world.links from row [] rows e) refl)
     (all-handles-events b l t (from + 1) rows s few (drop-next t.world.links from row rows e) a.1)
 
 pub all-events : (b l : ℕ) (t : Trace) → IsSized b l t.world → b ≤ 64 → AreSteps (IsEvent t) (events t.world)
 all-events b l t s few =
     rw s.bricks
-    (steps-append (IsEvent t) (posts b 0 t.world.outboxes) (all_handles b 0 t.world.links) (posts-events b l t 0 t.world.outboxes s few refl) (all-handles-events b l t 0 t.world.links s few refl s.rows))
+    (steps-append (IsEvent t) (posts b 0 t.world.outboxes) (all_handles b 0 t.world.links) (posts-events b l t 0 t.world.outboxes s few refl)
+    (all-handles-events b l t 0 t.world.links s few refl s.rows))

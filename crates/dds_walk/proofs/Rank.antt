@@ -29,7 +29,8 @@ at-first : (p : Event → Bool) (es : List Event) → step_at es (position p es)
 at-first p es =
     at-if es (position_or_len p es) (nat_lt (position_or_len p es) (length es)) refl ∙ ap step_of (sym (find_at p es))
 
-map-if : (g : Entry → Event) (e : Entry) (o : Option Entry) (q : Option Event) (b : Bool) → q ≡ option_map g o → (if b then Some (g e) else q) ≡ option_map g (if b then Some e else o)
+map-if : (g : Entry → Event) (e : Entry) (o : Option Entry) (q : Option Event) (b : Bool) → q ≡ option_map g o →
+    (if b then Some (g e) else q) ≡ option_map g (if b then Some e else o)
 map-if g e o q true h = refl
 map-if g e o q false h = h
 
@@ -54,7 +55,8 @@ ranked-map b es r =
     ∙ ap step_of (find-map (event_of b) (λ x. rank_of (map (event_of b) es) x == r) es)
     ∙ ap (λ (p : Entry → Bool). step_for b (find p es)) (λ i e. count-map b e.number es i == r)
 
-pub ranked-entry : (w : World) (agenda : List Entry) (r : ℕ) → AreSame (entries w) agenda → IsOrdered agenda → step_for (length w.bricks) (ranked_entry agenda r) ≡ ranked (events w) r
+pub ranked-entry : (w : World) (agenda : List Entry) (r : ℕ) → AreSame (entries w) agenda → IsOrdered agenda →
+    step_for (length w.bricks) (ranked_entry agenda r) ≡ ranked (events w) r
 ranked-entry w agenda r same ordered =
     ap (step_for (length w.bricks)) (ranked-same (entries w) agenda r (entries-placed w) ordered same)
     ∙ sym (ranked-map (length w.bricks) (entries w) r)

@@ -4,7 +4,8 @@ ghost use Rattle.std.specs.Prelude.{◌≡◌, ◌+◌, ◌++◌, Option, is_som
 ghost use Rattle.std.specs.List.{list_any};
 ghost use Rattle.dds_cluster.specs.declared.step.Step.TheVariants as step;
 ghost use Rattle.dds_cluster.specs.declared.step.Input.TheVariants as input;
-ghost use Rattle.dds_walk.specs.Walk.{call_alone, call_along, call_line, call_with, counted, line_done, lines_done, makes_call, makes_call_at, plays_to, rest_of, step_line, stop_line, tries};
+ghost use Rattle.dds_walk.specs.Walk.{call_alone, call_along, call_line, call_with, counted, line_done, lines_done, makes_call};
+ghost use Rattle.dds_walk.specs.Walk.{makes_call_at, plays_to, rest_of, step_line, stop_line, tries};
 
 use crate::moving::{events_line, quiet_line};
 use crate::picking::Picking;

@@ -2,7 +2,8 @@
 
 ghost use Rattle.std.specs.Prelude.{◌≡◌, ◌++◌, None, map, is_some, slice_get, slice_set, slice_index_or, IfOk, OnOk, if◌then◌else◌};
 ghost use Rattle.std.specs.List.{list_any};
-ghost use Rattle.dds_walk.specs.Walk.{is_order_reply, kind_at, kind_in, kind_or_join, lead_in, left, makes, orders_by, orders_in, played, plays_some, reply_line, rest_of, says, tries};
+ghost use Rattle.dds_walk.specs.Walk.{is_order_reply, kind_at, kind_in, kind_or_join, lead_in, left, makes, orders_by, orders_in, played};
+ghost use Rattle.dds_walk.specs.Walk.{plays_some, reply_line, rest_of, says, tries};
 
 use crate::same::{kind_of, lead, node_of};
 use crate::walk::{Lead, Walk};
