@@ -7,3 +7,4 @@ pub mod Tells
 pub mod BrickTells
 pub mod OrderTells
 pub mod LetterTells
+pub mod BrickFolds
