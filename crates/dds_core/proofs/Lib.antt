@@ -4,6 +4,7 @@ pub mod CallTurns
 pub mod CallAttempts
 pub mod LibraryAttempts
 pub mod Tells
+pub mod Rests
 pub mod BrickTells
 pub mod OrderTells
 pub mod LetterTells
