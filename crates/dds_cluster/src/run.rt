@@ -27,25 +27,25 @@ pub fn next(alloc: Global, trace: &mut Trace, step: &Step) -> Result<ReplyList, 
         return Ok(ReplyList::new(alloc));
     }
     let Happened { made, replies } = trace.world.turn(trace.steps, step)?;
-    open_caller(&mut trace.callers, step);
-    close_callers(&mut trace.callers, replies.as_slice());
-    ask(trace.steps, step, &mut trace.asked)?;
-    keep_all(&mut trace.made, made)?;
-    tell_all(trace.steps, replies.as_slice(), &mut trace.told)?;
+    opened_by(&mut trace.callers, step);
+    all_closed(&mut trace.callers, replies.as_slice());
+    asked_by(trace.steps, step, &mut trace.asked)?;
+    all_kept(&mut trace.made, made)?;
+    told_at(trace.steps, replies.as_slice(), &mut trace.told)?;
     trace.steps = trace.steps.checked_add(1).ok_or(Memory)?;
     Ok(replies)
 }
 
 /// The caller of a step's call has an open call.
-fn open_caller(callers: &mut Items<Caller>, step: &Step)
+fn opened_by(callers: &mut Items<Caller>, step: &Step)
     ensures { callers.new ≡ opened_by callers.old step.now }
 {
     if let Step::Input { node: _, input } = step {
-        open_input(callers, input);
+        opened_in(callers, input);
     }
 }
 
-fn open_input(callers: &mut Items<Caller>, input: &Input)
+fn opened_in(callers: &mut Items<Caller>, input: &Input)
     ensures { callers.new ≡ opened_in callers.old input.now }
 {
     if let Input::Call {
@@ -54,11 +54,11 @@ fn open_input(callers: &mut Items<Caller>, input: &Input)
         op: _,
     } = input
     {
-        open_call(callers, *caller, *call);
+        opens(callers, *caller, *call);
     }
 }
 
-fn open_call(callers: &mut Items<Caller>, caller: CallerNo, call: CallNo)
+fn opens(callers: &mut Items<Caller>, caller: CallerNo, call: CallNo)
     ensures { callers.new ≡ opens callers.old caller call (slice_get callers.old caller) }
 {
     let place = usize::from(caller.number());
@@ -77,15 +77,15 @@ fn open_call(callers: &mut Items<Caller>, caller: CallerNo, call: CallNo)
 }
 
 /// The callers of answered calls have no open call.
-fn close_callers(callers: &mut Items<Caller>, replies: &[Replied])
+fn all_closed(callers: &mut Items<Caller>, replies: &[Replied])
     ensures { callers.new ≡ all_closed callers.old replies.now }
 {
     for reply in replies {
-        close_caller(callers, reply);
+        closed_by(callers, reply);
     }
 }
 
-fn close_caller(callers: &mut Items<Caller>, reply: &Replied)
+fn closed_by(callers: &mut Items<Caller>, reply: &Replied)
     ensures { callers.new ≡ closed_by callers.old reply.now }
 {
     if let Replied::Call {
@@ -95,11 +95,11 @@ fn close_caller(callers: &mut Items<Caller>, reply: &Replied)
         reply: _,
     } = reply
     {
-        close_call(callers, *caller);
+        closes(callers, *caller);
     }
 }
 
-fn close_call(callers: &mut Items<Caller>, caller: CallerNo)
+fn closes(callers: &mut Items<Caller>, caller: CallerNo)
     ensures { callers.new ≡ closes callers.old caller (slice_get callers.old caller) }
 {
     let place = usize::from(caller.number());
@@ -118,16 +118,16 @@ fn close_call(callers: &mut Items<Caller>, caller: CallerNo)
 }
 
 /// Notes the call that a step makes.
-fn ask(at: u64, step: &Step, asked: &mut AskedList) -> Result<(), Memory>
+fn asked_by(at: u64, step: &Step, asked: &mut AskedList) -> Result<(), Memory>
     ensures { OnOk result (asked.new ≡ asked.old ++ asked_by at step.now) }
 {
     match step {
-        Step::Input { node: _, input } => ask_input(at, input, asked),
+        Step::Input { node: _, input } => asked_in(at, input, asked),
         _ => Ok(()),
     }
 }
 
-fn ask_input(at: u64, input: &Input, asked: &mut AskedList) -> Result<(), Memory>
+fn asked_in(at: u64, input: &Input, asked: &mut AskedList) -> Result<(), Memory>
     ensures { OnOk result (asked.new ≡ asked.old ++ asked_in at input.now) }
 {
     match input {
@@ -142,16 +142,16 @@ fn ask_input(at: u64, input: &Input, asked: &mut AskedList) -> Result<(), Memory
 }
 
 /// Keeps reads, and of each attempt's applied points the first.
-fn keep_all(made: &mut MadeList, new: Items<Made>) -> Result<(), Memory>
+fn all_kept(made: &mut MadeList, new: Items<Made>) -> Result<(), Memory>
     ensures { OnOk result (made.new ≡ made.old ++ all_kept made.old new) }
 {
     for m in new.into_vec() {
-        keep(made, m)?;
+        kept(made, m)?;
     }
     Ok(())
 }
 
-fn keep(made: &mut MadeList, m: Made) -> Result<(), Memory>
+fn kept(made: &mut MadeList, m: Made) -> Result<(), Memory>
     ensures { OnOk result (made.new ≡ made.old ++ kept made.old m) }
 {
     if is_repeated(made, &m) {
@@ -168,16 +168,16 @@ fn is_repeated(made: &MadeList, m: &Made) -> bool
 }
 
 /// Notes the calls that are answered.
-fn tell_all(at: u64, replies: &[Replied], told: &mut ToldList) -> Result<(), Memory>
+fn told_at(at: u64, replies: &[Replied], told: &mut ToldList) -> Result<(), Memory>
     ensures { OnOk result (told.new ≡ told.old ++ told_at at replies.now) }
 {
     for reply in replies {
-        tell(at, reply, told)?;
+        told_by(at, reply, told)?;
     }
     Ok(())
 }
 
-fn tell(at: u64, reply: &Replied, told: &mut ToldList) -> Result<(), Memory>
+fn told_by(at: u64, reply: &Replied, told: &mut ToldList) -> Result<(), Memory>
     ensures { OnOk result (told.new ≡ told.old ++ told_by at reply.now) }
 {
     match reply {

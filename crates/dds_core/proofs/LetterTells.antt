@@ -22,6 +22,7 @@ use Rattle.dds_letters.specs.declared.refusal.Ballot.TheVariants as ballot
 use Rattle.dds_letters.specs.declared.refusal.Denial.{Denial}
 use Rattle.dds_letters.specs.declared.refusal.Refusal.{Refusal}
 use Rattle.dds_letters.specs.declared.refusal.Wanted.{Wanted}
+use Rattle.dds_order_rows.specs.Denials.{lease_denial}
 use Rattle.dds_order_rows.specs.OwnOrder.{met_of}
 use Rattle.dds_states.specs.Turn.{unknown, without}
 use Rattle.dds_states.specs.declared.brick_state.BrickState.{BrickState}
@@ -33,7 +34,6 @@ use Rattle.dds_states.specs.declared.brick_state.Question.{Question}
 use Rattle.dds_states.specs.declared.brick_state.Question.TheVariants.{Help, Query}
 use Rattle.dds_core.proofs.BrickTells as rows
 use Rattle.dds_core.proofs.OrderTells as orders
-use Rattle.dds_core.proofs.OrderTells.{lease_denial}
 use Rattle.dds_core.proofs.Rests.{Orders, Rests, rests-if, rests-still, rests-tells, take-whole}
 use Rattle.dds_core.proofs.Tells.{Given, Sent, Tells, tells-from, tells-if, tells-sends, tells-still, tells-then}
 

@@ -1,4 +1,5 @@
 pub mod Lists
+pub mod Known
 pub mod CallDoes
 pub mod CallTurns
 pub mod CallAttempts
@@ -8,3 +9,4 @@ pub mod Rests
 pub mod BrickTells
 pub mod OrderTells
 pub mod LetterTells
+pub mod BrickFolds

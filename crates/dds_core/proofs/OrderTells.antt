@@ -21,6 +21,7 @@ use Rattle.dds_letters.specs.declared.refusal.Wanted.{Wanted}
 use Rattle.dds_letters.specs.declared.refusal.Wanted.TheVariants as wanted
 use Rattle.dds_locks.specs.Leases.{leased}
 use Rattle.dds_locks.specs.Pending.{any_under}
+use Rattle.dds_order_rows.specs.Denials.{lease_denial, split_refusal}
 use Rattle.dds_order_rows.specs.Orders as orders
 use Rattle.dds_order_rows.specs.OwnOrder as own_order
 use Rattle.dds_states.specs.Turn.{BrickTurn, and_then, first_some, sends, still, to_each, unknown, unknown_others, when, without}
@@ -34,11 +35,6 @@ use Rattle.dds_core.proofs.Rests.{Rests, orders-each, rests-from, rests-if, rest
 use Rattle.dds_core.proofs.Tells.{Given, GivesOrder, Sent, Tells}
 
 -- The rows of a brick for orders: those of others, and its own.
-
--- why a lease that is asked is refused: a leaf is taken first
-abbrev pub lease_denial : BrickState → Wanted → Option Refusal
-lease_denial s (wanted.Name name) = lease_refusal s name None
-lease_denial s (wanted.Leaf leaf) = lease_refusal (takes.take s leaf) leaf.name (Some leaf.stamp)
 
 served : (s : BrickState) (o : OpenOrder) (made : Leaf) (t : Task) → whole (own_order.serving s o made t) ≡ whole s
 served s o made (task.Join via) = refl
@@ -131,10 +127,7 @@ module _ {L : Sent} {M : Given} where
       (orders-each L (unknown_others leaf.list s.number s.known) (letter.Lease s.orders (wanted.Leaf leaf)) (λ n. tt)))
       (λ u. leases_on u (own_order.new_split s leaf))
 
--- what a split met at its own brick: a lease or a locked key stands in its way
-abbrev pub split_refusal : BrickState → Name → Option Refusal
-split_refusal s name = first_some (when (is_some (leased s.locks.leases name)) refusal.Lease) (when (any_under s.locks.pending name) refusal.Lock)
-
+-- what a split met at its own brick
 abbrev pub SplitMet : BrickState → Name → Given
 SplitMet s name m =
     (leaf : Leaf) × (why : Refusal) × (get s.leaves name ≡ Some leaf) × (split_refusal s leaf.name ≡ Some why) × (own_order.met_of why s.number ≡ m)

@@ -10,7 +10,7 @@ use Rattle.dds_base.specs.declared.op.OrderReply.{OrderReply}
 use Rattle.dds_base.specs.declared.op.OrderReply.TheVariants as answered
 use Rattle.dds_core.proofs.LetterTells.{MetAt, RefusesNothing, Says, denied, get_refused, grants, lease_refused}
 use Rattle.dds_core.proofs.Lists.{all-map}
-use Rattle.dds_core.proofs.OrderTells.{InputMet, lease_denial}
+use Rattle.dds_core.proofs.OrderTells.{InputMet}
 use Rattle.dds_core.proofs.Tells.{AllSends, Gives, Sends}
 use Rattle.dds_letters.specs.declared.letter.Letter.{Letter}
 use Rattle.dds_letters.specs.declared.letter.Letter.TheVariants as letter
@@ -23,7 +23,7 @@ use Rattle.dds_script.specs.Opening.{OpeningOf}
 use Rattle.dds_states.specs.declared.brick_state.BrickState.{BrickState}
 use Rattle.dds_states.specs.declared.turn.Replied.{Replied}
 use Rattle.dds_states.specs.declared.turn.Replied.TheVariants as replied
-use Rattle.dds_world.specs.Refusals.{LeaseWasRefused, OrderWasRefused, TookBefore, lease_was_refused}
+use Rattle.dds_world.specs.Refusals.{LeaseWasRefused, OrderWasRefused, TookBefore}
 use Rattle.dds_cluster.specs.Trace.{is_possible, run_of}
 use Rattle.dds_cluster.specs.declared.step.Input.TheVariants as input
 use Rattle.dds_cluster.specs.declared.step.Step.{Step}
@@ -52,10 +52,6 @@ abbrev took : (o : OpeningOf) (journal : List Step) (x : Step) (u : Net) (n from
 took o journal x u n from l m s t is =
     let f = subst (IsFirst (sizes_of o) (net_of o journal) n from) is t.first in
     record { at = length journal; handles = handles-now o journal x n from m s t.step t.possible f t.here t.live }
-
-lease-is : (s : BrickState) (what : Wanted) → lease_denial s what ≡ lease_was_refused s what
-lease-is s (wanted.Name name) = refl
-lease-is s (wanted.Leaf leaf) = refl
 
 -- what it says in a letter to another node
 says-ok : (o : OpeningOf) (journal : List Step) (x : Step) (u : Net) (n from : NodeNo) (l : Letter) (s : BrickState) (to b : NodeNo) (sent : Letter)
@@ -99,7 +95,7 @@ says-ok o journal x u n from l s to b sent t back (lease_refused number what why
       state = s;
       took = took o journal x u n from l (letter.Lease number what) s t is;
       sender = back home;
-      true_then = sym (lease-is s what) ∙ true_then;
+      true_then = true_then;
     })
 
 -- a letter that refuses nothing says nothing

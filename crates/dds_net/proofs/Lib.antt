@@ -16,6 +16,5 @@ pub mod Ways
 pub mod Letters
 pub mod OneWay
 pub mod PairTakes
-pub mod BrickFolds
 pub mod Carried
 pub mod Journals

@@ -1,5 +1,5 @@
 -- Each refusal was true at the step that made it. Proved of every run.
-use Rattle.std.specs.Prelude.{ℕ, ◌≡◌, ◌⊎◌, List, Option, Some, None, is_some, slice_get, take}
+use Rattle.std.specs.Prelude.{ℕ, ◌≡◌, ◌⊎◌, List, Option, Some, slice_get, take}
 use Rattle.std.specs.FinMap.{get}
 use Rattle.dds_base.specs.Name.{Name}
 use Rattle.dds_base.specs.Number.{Txn, StampOf}
@@ -12,8 +12,7 @@ use Rattle.dds_base.specs.declared.op.Met.TheVariants as met
 use Rattle.dds_base.specs.declared.op.Op.{Op}
 use Rattle.dds_base.specs.declared.op.Order.TheVariants as order
 use Rattle.dds_base.specs.declared.op.OrderReply.TheVariants as answered
-use Rattle.dds_brick_rows.specs.Refusal.{get_refusal, update_denial, lease_refusal}
-use Rattle.dds_brick_rows.specs.Take.{take as take_leaf}
+use Rattle.dds_brick_rows.specs.Refusal.{get_refusal, update_denial}
 use Rattle.dds_letters.specs.declared.letter.Letter.{Letter}
 use Rattle.dds_letters.specs.declared.letter.Letter.TheVariants as letter
 use Rattle.dds_letters.specs.declared.refusal.Answer.TheVariants as answer
@@ -21,14 +20,10 @@ use Rattle.dds_letters.specs.declared.refusal.Ballot.TheVariants as ballot
 use Rattle.dds_letters.specs.declared.refusal.Denial.{Denial}
 use Rattle.dds_letters.specs.declared.refusal.Denial.TheVariants as denial
 use Rattle.dds_letters.specs.declared.refusal.Refusal.{Refusal}
-use Rattle.dds_letters.specs.declared.refusal.Refusal.TheVariants as refusal
 use Rattle.dds_letters.specs.declared.refusal.Wanted.{Wanted}
-use Rattle.dds_letters.specs.declared.refusal.Wanted.TheVariants as wanted
-use Rattle.dds_locks.specs.Leases.{leased}
-use Rattle.dds_locks.specs.Pending.{any_under}
+use Rattle.dds_order_rows.specs.Denials.{lease_denial, split_refusal}
 use Rattle.dds_order_rows.specs.OwnOrder.{met_of}
 use Rattle.dds_script.specs.Opening.{OpeningOf}
-use Rattle.dds_states.specs.Turn.{first_some, when}
 use Rattle.dds_states.specs.declared.brick_state.BrickState.{BrickState}
 use Rattle.dds_states.specs.declared.brick_state.OpenOrder.{OpenOrder}
 use Rattle.dds_states.specs.declared.library_state.LibraryState.{LibraryState}
@@ -70,16 +65,12 @@ pub record UpdateWasDenied (o : OpeningOf) (journal : List Step) (brick : NodeNo
   pub took : TookBefore o journal brick (letter.Prepare txn caller call below name stamp list op) state
   pub true_then : update_denial state op name stamp ≡ Some why
 
-abbrev pub lease_was_refused : BrickState → Wanted → Option Refusal
-lease_was_refused s (wanted.Name name) = lease_refusal s name None
-lease_was_refused s (wanted.Leaf leaf) = lease_refusal (take_leaf s leaf) leaf.name (Some leaf.stamp)
-
 pub record LeaseWasRefused (o : OpeningOf) (journal : List Step) (brick asker : NodeNo) (number : ℕ) (why : Refusal) : Type 0 where
   pub what : Wanted
   pub state : BrickState
   pub took : TookBefore o journal brick (letter.Lease number what) state
   pub sender : took.handles.from ≡ asker
-  pub true_then : lease_was_refused state what ≡ Some why
+  pub true_then : lease_denial state what ≡ Some why
 
 -- a brick refused a get or an update of a call for what it met
 pub record GetOfCallWasRefused (o : OpeningOf) (journal : List Step) (caller : ℕ) (call : CallNo) (m : Met) : Type 0 where
@@ -110,11 +101,6 @@ WasMet o journal caller call (met.Stopped brick) = Unit {0}
 WasMet o journal caller call (met.Lease brick) = CallWasRefused o journal caller call (met.Lease brick)
 WasMet o journal caller call (met.Lock brick) = CallWasRefused o journal caller call (met.Lock brick)
 WasMet o journal caller call (met.Stale brick) = CallWasRefused o journal caller call (met.Stale brick)
-
--- a lease or a locked key stands in the way of a split at its own brick
-abbrev pub split_refusal : BrickState → Name → Option Refusal
-split_refusal s name =
-    first_some (when (is_some (leased s.locks.leases name)) refusal.Lease) (when (any_under s.locks.pending name) refusal.Lock)
 
 -- the step at a place answers the brick's open order, whose request a member refused
 pub record MemberRefused (o : OpeningOf) (journal : List Step) (at : ℕ) (m : Met) : Type 0 where
