@@ -3,31 +3,32 @@ use Rattle.std.specs.Prelude.{ℕ, ◌≡◌, ◌⊎◌, true, String, List, []}
 use Rattle.std.specs.List.{list_all}
 use Rattle.dds_base.specs.Outside.{Added, AddedPart, Rose, TookPast, TookWithin}
 use Rattle.dds_script.specs.Grammar.{Accepts, IsFirstFault}
-use Rattle.dds_script.specs.Opening.{OpeningOf, ScriptOf as Script, first_opening}
+use Rattle.dds_script.specs.Opening.{ScriptOf as Script, first_opening}
 use Rattle.dds_transcript.specs.Text.{report_text}
-use Rattle.dds_cluster.specs.Trace.{is_plain, is_run, run_of}
+use Rattle.dds_cluster.specs.Trace.{is_run, run_of}
 use Rattle.dds_world.specs.Stands.{Stands}
 use Rattle.dds_cluster.specs.declared.step.Step.{Step}
 use Rattle.dds_law_commit.specs.Law.{AreCaused}
+use Rattle.dds_walk.specs.Law.{is_plain_line}
 use Rattle.dds_walk.specs.Walk.{steps, transcript}
 use Rattle.dds_ends.specs.End.{IsStepCommand, Outside, IsUnread, IsUnwritten, IsReadWhole}
 use Rattle.dds_ends.specs.declared.end.End.{End}
 use Rattle.dds_ends.specs.declared.end.End.TheVariants.{Finished, Usage, TooLong, ReadFault, Script as ScriptEnd, WriteFault, Memory}
 use Rattle.dds_ends.specs.declared.command.TheConstants.{BYTES, LINES}
 
--- the runs that are proved to stand in one legal history: those of one brick, one library and one caller, whose journal has
--- neither stops nor orders
-pub record IsProvedToStand (opening : OpeningOf) (journal : List Step) : Type 0 where
-  pub first : opening ≡ first_opening
-  pub plain : list_all is_plain journal ≡ true
+-- the scripts whose runs are proved to stand in one legal history: those of one brick, one library and one caller, of whose
+-- lines none is a stop, a join or a split
+pub record IsProvedToStand (script : Script) : Type 0 where
+  pub first : script.opening ≡ first_opening
+  pub plain : list_all is_plain_line script.lines ≡ true
 
--- the journal is the one that the script determines, and a run; and where it is one of those that are proved to stand, all
--- its calls stand in one legal history of one map, and each Again, Full and Lost has its cause in it
+-- the journal is the one that the script determines, and a run; and where the script is one of those that are proved to
+-- stand, all calls stand in one legal history of one map, and each Again, Full and Lost has its cause in the journal
 pub record IsRunOf (script : Script) (journal : List Step) : Type 0 where
   pub follows : journal ≡ steps script
   pub run : is_run script.opening journal ≡ true
-  pub stands : IsProvedToStand script.opening journal → Stands (run_of script.opening journal)
-  pub caused : IsProvedToStand script.opening journal → AreCaused script.opening journal
+  pub stands : IsProvedToStand script → Stands (run_of script.opening journal)
+  pub caused : IsProvedToStand script → AreCaused script.opening journal
 
 -- the script is what the bytes spell, and the journal is its run
 pub record IsScriptRun (bytes : List ℕ) (script : Script) (journal : List Step) : Type 0 where

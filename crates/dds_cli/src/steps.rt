@@ -16,6 +16,7 @@ use dds_law_commit::laws::{answers_are_caused, runs_stand};
 use dds_script::opening::Script;
 use dds_script::read_script::read_script;
 use dds_script::script_error::ScriptError;
+use dds_walk::laws::steps_are_plain;
 use dds_walk::reports::{Walked, walk_script};
 use std::alloc::Global;
 
@@ -70,12 +71,13 @@ fn run_script<K: Sink>(alloc: Global, script: &Script, sink: &mut K) -> Ended
     }
 }
 
-/// Runs a script. The laws say which runs stand in one legal history, with a cause for each refusal.
+/// Runs a script. The laws say which scripts' runs stand in one legal history, with a cause for each refusal.
 fn run(alloc: Global, script: &Script) -> Result<Walked, Memory>
     ensures ran { IfOk result (λ ran. IsRunOf script.now ran.journal) }
     ensures lines { IfOk result (λ ran. ran.lines.items ≡ transcript script.now ran.journal) }
 {
     runs_stand();
     answers_are_caused();
+    steps_are_plain();
     walk_script(alloc, script)
 }

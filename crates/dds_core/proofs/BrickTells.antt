@@ -19,6 +19,7 @@ use Rattle.dds_letters.specs.declared.refusal.Refusal.{Refusal}
 use Rattle.dds_states.specs.Turn.{sends, unknown_others}
 use Rattle.dds_states.specs.declared.brick_state.BrickState.{BrickState}
 use Rattle.dds_states.specs.declared.brick_state.Resolving.{Resolving}
+use Rattle.dds_core.proofs.Rests.{rests-still, rests-tells, take-whole}
 use Rattle.dds_core.proofs.Tells.{Given, Sent, Tells, sent-each, tells-from, tells-if, tells-sends, tells-still, tells-then, who}
 
 -- The rows of a brick for calls, for leaves that it is told, and to resolve transactions.
@@ -67,21 +68,9 @@ module _ {L : Sent} {M : Given} where
   pub map_ask_row : (s : BrickState) (from : NodeNo) (txn : Txn) (key : ℕ) → Tells L M s (calls.map_ask_row s from txn key)
   map_ask_row s from txn key = tells-sends s s _ refl (tt, tt)
 
--- a leaf that is taken changes leaves alone
-same-if : (s u : BrickState) (b : Bool) → who u ≡ who s → who (if b then u else s) ≡ who s
-same-if s u true e = e
-same-if s u false e = refl
-
-take-over-same : (s : BrickState) (leaf : Leaf) (own : Option Leaf) → who (takes.take_over s leaf own) ≡ who s
-take-over-same s leaf None = refl
-take-over-same s leaf (Some own) = same-if s _ _ refl
-
-pub take-same : (s : BrickState) (leaf : Leaf) → who (takes.take s leaf) ≡ who s
-take-same s leaf = take-over-same s leaf _
-
 module _ {L : Sent} {M : Given} where
   pub push_row : (s : BrickState) (leaf : Leaf) → Tells L M s (takes.push_row s leaf)
-  push_row s leaf = tells-still s (takes.take s leaf) (take-same s leaf)
+  push_row s leaf = rests-tells (rests-still s (takes.take s leaf) (take-whole s leaf))
 
   -- resolving
   settled : (s u : BrickState) (commit : Bool) (p : Option Pending) → who u ≡ who s → Tells L M s (resolution.settled u commit p)

@@ -11,6 +11,7 @@ use Rattle.dds_base.specs.declared.op.Op.{Op}
 use Rattle.dds_base.specs.declared.op.OrderReply.TheVariants as answered
 use Rattle.dds_brick_rows.specs.Calls.{answer_of}
 use Rattle.dds_brick_rows.specs.Refusal.{get_refusal, update_denial}
+use Rattle.dds_brick_rows.specs.Take as takes
 use Rattle.dds_brick_rows.specs.declared.resolution.News.TheVariants as news
 use Rattle.dds_core.specs.Brick.{live_brick_turn}
 use Rattle.dds_core.specs.Notice as notices
@@ -33,22 +34,23 @@ use Rattle.dds_states.specs.declared.brick_state.Question.{Question}
 use Rattle.dds_states.specs.declared.brick_state.Question.TheVariants.{Help, Query}
 use Rattle.dds_core.proofs.BrickTells as rows
 use Rattle.dds_core.proofs.OrderTells as orders
+use Rattle.dds_core.proofs.Rests.{Orders, Rests, rests-if, rests-still, rests-tells, take-whole}
 use Rattle.dds_core.proofs.Tells.{Given, Sent, Tells, tells-from, tells-if, tells-sends, tells-still, tells-then}
 
 -- A live brick's turn at each letter: what it says of its refusals, and that it knows the sender of a notice afterwards.
 
 module _ {L : Sent} {M : Given} where
-  copies_again : (s : BrickState) (o : OpenOrder) (leaf : Option Leaf) → Tells L M s (notices.copies_again s o leaf)
+  copies_again : (s : BrickState) (o : OpenOrder) (leaf : Option Leaf) → Rests L M s (notices.copies_again s o leaf)
   copies_again s o None = orders.going_on s o
   copies_again s o (Some leaf) = orders.copies s o leaf
 
-  order_goes : (s : BrickState) (o : OpenOrder) (y : NodeNo) (phase : OrderPhase) → Tells L M s (notices.order_goes s o y phase)
-  order_goes s o y Leasing = tells-if _ (orders.ends s o answered.NoSource tt) (orders.leases_on s (record o { waiting = without o.waiting y }))
+  order_goes : (s : BrickState) (o : OpenOrder) (y : NodeNo) (phase : OrderPhase) → Rests L M s (notices.order_goes s o y phase)
+  order_goes s o y Leasing = rests-if _ (orders.ends s o answered.NoSource tt) (orders.leases_on s (record o { waiting = without o.waiting y }))
   order_goes s o y (Copying source) = copies_again s o o.leaf
   order_goes s o y (Installing made) = orders.installs_on s (record o { waiting = without o.waiting y }) made
 
-  order_part : (s : BrickState) (y : NodeNo) → Tells L M s (notices.order_part s y)
-  order_part s y = tells-if _ (orders.with_order s _ s.order (λ t o e. order_goes t o y o.phase)) (tells-still s s refl)
+  pub order_part : (s : BrickState) (y : NodeNo) → Rests L M s (notices.order_part s y)
+  order_part s y = rests-if _ (orders.with_order s _ s.order (λ t o e. order_goes t o y o.phase)) (rests-still s s refl)
 
   asked_again : (s : BrickState) (d : Deferred) (q : Question) → Tells L M s (notices.asked_again s d q)
   asked_again s d Help = rows.help_row s d.from d.txn d.list
@@ -78,7 +80,7 @@ module _ {L : Sent} {M : Given} where
   notice_row : (s : BrickState) (y : NodeNo) → Tells L M (notices.learns s y) (notices.notice_row s y)
   notice_row s y =
       let l = notices.learns s y in
-      let first = tells-then l _ (λ t. notices.resolving_part t y) (order_part l y) (λ u. rows.all_hear u y news.Stopped) in
+      let first = tells-then l _ (λ t. notices.resolving_part t y) (rests-tells (order_part l y)) (λ u. rows.all_hear u y news.Stopped) in
       let second = tells-then l _ notices.deferred_part first (λ u. deferred_part u) in
       tells-then l _ (λ t. notices.pending_part t y) second (λ u. pending_part u y)
 
@@ -134,14 +136,34 @@ letter-tells s from (letter.Help txn list) = rows.help_row s from txn list
 letter-tells s from (letter.Query txn list) = rows.query_row s from txn list
 letter-tells s from (letter.Status txn status) = rows.all_hear s from (news.Told txn status)
 letter-tells s from (letter.Outcome txn commit) = rows.outcome_row s txn commit
-letter-tells s from (letter.Lease number what) = orders.lease_row s from number what (λ why e. lease_refused number what why refl refl refl e)
-letter-tells s from (letter.Granted number leaf) = orders.granted_row s from number leaf
+letter-tells s from (letter.Lease number what) = rests-tells (orders.lease_row s from number what (λ why e. lease_refused number what why refl refl refl e))
+letter-tells s from (letter.Granted number leaf) = rests-tells (orders.granted_row s from number leaf)
 letter-tells s from (letter.LeaseRefused number why) =
-    orders.lease_refused_row s from number why (λ o e k. record { number = number; why = why; is = refl; met = refl; order = o; there = e; same = k })
-letter-tells s from (letter.Release number name) = orders.release_row s from name
-letter-tells s from (letter.CopyAsk number name after) = orders.copy_ask_row s from number name after
-letter-tells s from (letter.CopyPart number last pairs) = orders.copy_part_row s from number last pairs
-letter-tells s from (letter.Install number leaf) = orders.install_row s from number leaf
-letter-tells s from (letter.Installed number name) = orders.installed_row s from number
+    rests-tells (orders.lease_refused_row s from number why
+    (λ o e k. record { number = number; why = why; is = refl; met = refl; order = o; there = e; same = k }))
+letter-tells s from (letter.Release number name) = rests-tells (orders.release_row s from name)
+letter-tells s from (letter.CopyAsk number name after) = rests-tells (orders.copy_ask_row s from number name after)
+letter-tells s from (letter.CopyPart number last pairs) = rests-tells (orders.copy_part_row s from number last pairs)
+letter-tells s from (letter.Install number leaf) = rests-tells (orders.install_row s from number leaf)
+letter-tells s from (letter.Installed number name) = rests-tells (orders.installed_row s from number)
 letter-tells s from letter.Notice = notice_row s from
 letter-tells s from other = tells-still s s refl
+
+-- the letters of orders leave transactions alone
+abbrev pub Any : Sent
+Any to l = Unit {0}
+
+abbrev pub Each : Given
+Each m = Unit {0}
+
+pub letter-rests : (s : BrickState) (from to : NodeNo) (l : Letter) → Orders Any to l → Rests Any Each s (live_brick_turn s from l)
+letter-rests s from to (letter.Push leaf) h = rests-still s (takes.take s leaf) (take-whole s leaf)
+letter-rests s from to (letter.Lease number what) h = orders.lease_row s from number what (λ why e. tt)
+letter-rests s from to (letter.Granted number leaf) h = orders.granted_row s from number leaf
+letter-rests s from to (letter.LeaseRefused number why) h = orders.lease_refused_row s from number why (λ o e k. tt)
+letter-rests s from to (letter.Release number name) h = orders.release_row s from name
+letter-rests s from to (letter.CopyAsk number name after) h = orders.copy_ask_row s from number name after
+letter-rests s from to (letter.CopyPart number last pairs) h = orders.copy_part_row s from number last pairs
+letter-rests s from to (letter.Install number leaf) h = orders.install_row s from number leaf
+letter-rests s from to (letter.Installed number name) h = orders.installed_row s from number
+letter-rests s from to other h = absurd h

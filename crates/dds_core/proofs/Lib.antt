@@ -1,9 +1,11 @@
 pub mod Lists
+pub mod Known
 pub mod CallDoes
 pub mod CallTurns
 pub mod CallAttempts
 pub mod LibraryAttempts
 pub mod Tells
+pub mod Rests
 pub mod BrickTells
 pub mod OrderTells
 pub mod LetterTells

@@ -1,10 +1,8 @@
-use Rattle.std.proofs.Common.{◌≡◌, ℕ, ◌-◌, ◌<◌, ◌≤◌, ◌==◌, ◌||◌, Bool, true, false, List, [], ◌∷◌, refl, sym, ap, ◌∙◌, arith}
+use Rattle.std.proofs.Common.{◌≡◌, ℕ, ◌-◌, ◌<◌, ◌==◌, ◌||◌, Bool, true, false, List, [], ◌∷◌, refl, ap, ◌∙◌}
 use Rattle.std.proofs.lemmas.Bool.{both_ways, eq-eqb, ne_eqb, or_left}
-use Rattle.std.proofs.lemmas.Bool.Decides.{nat_tests}
 use Rattle.std.proofs.lemmas.Nat.Bits.{bit_at-zero}
 use Rattle.std.specs.Int.{bit_at}
 use Rattle.std.specs.Prelude.{nat_lt, if◌then◌else◌}
-use Rattle.dds_base.proofs.Sets.{added-brick, added-library, with-brick, with-library}
 use Rattle.dds_base.specs.NodeSet.{has_node, no_nodes, with_node}
 use Rattle.dds_base.specs.declared.node_set.NodeSet.{NodeSet}
 use Rattle.dds_base.specs.declared.number.CallerNo.{CallerNo}
@@ -16,6 +14,7 @@ use Rattle.dds_base.specs.declared.op.Order.{Order}
 use Rattle.dds_call_rows.specs.Library.{CallTurn, begin}
 use Rattle.dds_core.proofs.CallDoes.{ArePushes, Begins, CallDoes, aborts, call-does, commits, gets, looks, new-begins, prepares, tries}
 use Rattle.dds_core.proofs.CallTurns.{library-keeps}
+use Rattle.dds_core.proofs.Known.{has-with}
 use Rattle.dds_core.proofs.LetterTells.{Says, heard, letter-tells}
 use Rattle.dds_core.proofs.Lists.{all-append}
 use Rattle.dds_core.proofs.OrderTells.{order-silent, order-tells}
@@ -135,15 +134,7 @@ library-does s caller call o live =
           (both_ways s.stopped live e);
     }
 
--- whom a set has with a node more, and an empty one
-has-with : (s : NodeSet) (node other : ℕ) → node < 80 → has_node (with_node s node) other ≡ (other == node || has_node s other)
-has-with s node other h =
-    elim (nat_lt node 64) as (λ b. nat_lt node 64 ≡ b → has_node (with_node s node) other ≡ (other == node || has_node s other)) [
-      | true ↦ λ e. let low : node < 64 = grind (arith, nat_tests, e) in ap (λ t. has_node t other) (sym (with-brick s node low)) ∙ added-brick s node other low
-      | false ↦ λ e. let high : 64 ≤ node = grind (arith, nat_tests, e) in ap (λ t. has_node t other) (sym (with-library s node high h))
-          ∙ added-library s node other high h
-    ] refl
-
+-- an empty set
 none-if : (n : ℕ) (c : Bool) → (if c then bit_at 0 n == 1 else bit_at 0 (n - 64) == 1) ≡ false
 none-if n true = rw (bit_at-zero n) refl
 none-if n false = rw (bit_at-zero (n - 64)) refl

@@ -12,3 +12,4 @@ pub mod Entries
 pub mod Rank
 pub mod Changed
 pub mod Kept
+pub mod Plain

@@ -46,11 +46,11 @@ trace-push : (t : Trace) (xs : List Step) (s : Step) → trace_from t (xs ++ s �
 trace-push t [] s = refl
 trace-push t (x ∷ xs) s = trace-push (next t x) xs s
 
-both-left : (a b : Bool) → (a && b) ≡ true → a ≡ true
+pub both-left : (a b : Bool) → (a && b) ≡ true → a ≡ true
 both-left true b e = refl
 both-left false b e = e
 
-both-right : (a b : Bool) → (a && b) ≡ true → b ≡ true
+pub both-right : (a b : Bool) → (a && b) ≡ true → b ≡ true
 both-right true b e = e
 both-right false b e = absurd (cc)
 

@@ -1,3 +1,4 @@
 pub mod Picking
 pub mod Walk
 pub mod Agenda
+pub mod Law
