@@ -121,7 +121,7 @@ ever o journal at also a b (inl le) h run there here e = ordered o journal at al
 ever o journal at also a b (inr le) h run there here e = swapped a b (ordered o journal also at b a le h run here there (sym e))
 
 either : (at also : ℕ) → (at ≤ also) ⊎ (also ≤ at)
-either at also = elim (cases_lt at also) [ | inl h ↦ inl (omega (arith, h)) | inr h ↦ inr h ]
+either at also = elim (cases_lt at also) [ inl h ↦ inl (omega (arith, h)) | inr h ↦ inr h ]
 
 here : (o : OpeningOf) (journal : List Step) (a b : Leaf) → IsOpening o → is_run o journal ≡ true → HasLeaf (reached o journal) a
     → HasLeaf (reached o journal) b → a.name ≡ b.name → a.stamp ≡ b.stamp → a ≡ b

@@ -26,7 +26,7 @@ book-all [] d = tt
 book-all (l ∷ ls) d = (
   ap (λ c. if c then Some (body l) else book_of ls l.stamp) (stamp-self l.stamp),
   all-map (λ x. Differ l x × Known (book_of ls) x) (Known (book_of (l ∷ ls))) ls
-  (λ x h. ap (λ c. if c then Some (body l) else book_of ls x.stamp) h.0 ∙ h.1) (all-both (Differ l) (Known (book_of ls)) ls d.0 (book-all ls d.1)),
+      (λ x h. ap (λ c. if c then Some (body l) else book_of ls x.stamp) h.0 ∙ h.1) (all-both (Differ l) (Known (book_of ls)) ls d.0 (book-all ls d.1)),
 )
 
 stamps-apart : (a b : StampOf) → (a.maker ≡ b.maker → a.count ≡ b.count → ⊥) → same_stamp a b ≡ false
@@ -68,7 +68,7 @@ stale-from k libraries before (l ∷ ls) h =
     let count : l.stamp.count ≡ stale_at lib before = ap (λ (x : Leaf). x.stamp.count) h.0.2 in
     let more = stale-count k before l in (
       (λ e. let same : lib ≡ k = omega (arith, e, maker) in
-      let at : stale_at lib before ≡ stale_at k before = ap (λ i. stale_at i before) same in omega (arith, count, at)),
+          let at : stale_at lib before ≡ stale_at k before = ap (λ i. stale_at i before) same in omega (arith, count, at)),
       all-map _ _ ls (λ (x : Leaf) f e. let j = f e in omega (arith, j, more)) (stale-from k libraries (before ++ l ∷ []) ls h.1),
     )
 
@@ -81,8 +81,8 @@ stale-apart libraries before (l ∷ ls) h =
     let more = stale-count lib before l in
     let one = one-more lib l maker in (
       all-map _ (Differ l) ls
-      (λ (x : Leaf) f. stamps-apart l.stamp x.stamp (λ e g. let j = f (sym e ∙ maker) in omega (arith, j, more, one, g, count)))
-      (stale-from lib libraries (before ++ l ∷ []) ls h.1),
+          (λ (x : Leaf) f. stamps-apart l.stamp x.stamp (λ e g. let j = f (sym e ∙ maker) in omega (arith, j, more, one, g, count)))
+          (stale-from lib libraries (before ++ l ∷ []) ls h.1),
       stale-apart libraries (before ++ l ∷ []) ls h.1,
     )
 
