@@ -1,0 +1,13 @@
+pub mod Book
+pub mod Maps
+pub mod Turns
+pub mod Making
+pub mod OwnOrders
+pub mod Plain
+pub mod Bricks
+pub mod Calls
+pub mod Libraries
+pub mod Keeps
+pub mod Stamps
+pub mod Openings
+pub mod Ever

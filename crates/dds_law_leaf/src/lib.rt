@@ -1,0 +1,4 @@
+//! Why two leaves with one stamp differ in their names alone.
+#![tactic(auto)]
+
+pub mod laws;
