@@ -41,7 +41,7 @@ new-link v w apart a c e f g =
     subst (λ x. Link w.stopped c (x.stopped && apart) (knows w a)) (sym e) (subst (λ x. Link x.stopped c false (knows x a)) (sym f)
     (subst (Link false c false) (sym (none-known a)) (lives (subst Silent (sym g) tt))))
 
-start-links : (o : OpeningOf) → AreLinked (sizes_of o) (net (sizes_of o) (start o).world)
+pub start-links : (o : OpeningOf) → AreLinked (sizes_of o) (net (sizes_of o) (start o).world)
 start-links o a b h =
     let n = net (sizes_of o) (start o).world in
     new-link (view (n.node a)) (view (n.node b)) (not (a == b)) a (n.channel a b) (new-view o a (n.node a) (start-node o a))
