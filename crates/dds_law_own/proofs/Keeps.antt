@@ -17,13 +17,15 @@ use Rattle.dds_law_notice.proofs.Views.{none-known, view}
 use Rattle.dds_law_own.proofs.Changes.{own, way-keeps}
 use Rattle.dds_law_own.proofs.LetterWays.{IsOfAnother, letter-way, order-way}
 use Rattle.dds_law_own.proofs.Lists.{in-empty}
-use Rattle.dds_law_own.proofs.Owned.{IsOwn, Named, own-kept}
+use Rattle.dds_law_own.proofs.Opened.{empty-disjoint}
+use Rattle.dds_law_own.proofs.Owned.{Named}
+use Rattle.dds_law_own.proofs.Parted.{IsBoth, both-kept}
 
 -- Each event keeps what is so of one brick. Only this is wanted of others: a brick has no notice of itself (the law of notices).
 
 abbrev pub NodeOk : ℕ → Node → Type 0
 NodeOk k nowhere = Unit {0}
-NodeOk k (a_brick s) = IsOwn k (own s)
+NodeOk k (a_brick s) = IsBoth k (own s)
 NodeOk k (a_library s) = Unit {0}
 
 abbrev pub AreOwn : Net → Type 0
@@ -62,14 +64,16 @@ becomes z cs n nothing few some l f g = tt
 becomes z cs n (unheard at from m) few some l f g = tt
 becomes z cs n (unasked at caller call o) few some l f g = tt
 becomes z cs n (brick_takes at from m s) few some l f g =
-    let ok : IsOwn at (own s) = subst (NodeOk at) f.here (g at) in
-    way-keeps (IsOwn at) (own-kept at) (own s) (own (live_brick_turn s from m).state)
-    (letter-way s from m (of-another z n at from m s few some l f ok.number)).way ok
+    let ok : IsBoth at (own s) = subst (NodeOk at) f.here (g at) in
+    way-keeps (IsBoth at) (both-kept at) (own s) (own (live_brick_turn s from m).state)
+    (letter-way s from m (of-another z n at from m s few some l f ok.0.number)).way ok
 becomes z cs n (brick_told at o s) few some l f g =
-    way-keeps (IsOwn at) (own-kept at) (own s) (own (brick_input s o).state) (order-way s o).way (subst (NodeOk at) f.here (g at))
+    way-keeps (IsBoth at) (both-kept at) (own s) (own (brick_input s o).state) (order-way s o).way (subst (NodeOk at) f.here (g at))
 becomes z cs n (brick_stops at s kept) few some l f g =
-    let ok : IsOwn at (own s) = subst (NodeOk at) f.here (g at) in
-    record { number = ok.number; alone = none-known at; leaves = in-empty (Named at); order = tt; apart = tt; free = tt }
+    let ok : IsBoth at (own s) = subst (NodeOk at) f.here (g at) in (
+      record { number = ok.0.number; alone = none-known at; leaves = in-empty (Named at); order = tt; apart = tt; free = tt },
+      record { leaves = empty-disjoint; order = tt },
+    )
 becomes z cs n (library_takes at from m s) few some l f g = tt
 becomes z cs n (library_asked at caller call o s) few some l f g = tt
 becomes z cs n (library_stops at s kept) few some l f g = tt
