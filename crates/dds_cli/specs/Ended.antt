@@ -16,8 +16,8 @@ use Rattle.dds_ends.specs.declared.end.End.{End}
 use Rattle.dds_ends.specs.declared.end.End.TheVariants.{Finished, Usage, TooLong, ReadFault, Script as ScriptEnd, WriteFault, Memory}
 use Rattle.dds_ends.specs.declared.command.TheConstants.{BYTES, LINES}
 
--- the scripts whose runs are proved to stand in one legal history: those of one brick, one library and one caller, of whose
--- lines none is a stop, a join or a split
+-- the scripts whose runs are proved to stand in one legal history: those that open with one brick, one library, one caller
+-- and one leaf, and of whose lines none is a stop, a join or a split
 pub record IsProvedToStand (script : Script) : Type 0 where
   pub first : script.opening ≡ first_opening
   pub plain : list_all is_plain_line script.lines ≡ true
