@@ -117,7 +117,7 @@ IsBoth me x = IsOwn me x × IsParted x
 parted-kept : (me : ℕ) (x y : Own) → Change x y → IsOwn me x → IsParted x → IsParted y
 parted-kept me x _ (takes mine leaf may) h p = replaced-parted me x mine leaf h p may.there
 parted-kept me x _ (installs mine leaf from may) h p = replaced-parted me x mine leaf h p may.there
-parted-kept me x _ (gives name leaf holder there free) h p = record { leaves = p.leaves; order = p.order }
+parted-kept me x _ (gives name leaf holder there free unknown) h p = record { leaves = p.leaves; order = p.order }
 parted-kept me x _ (releases name holder) h p = record { leaves = p.leaves; order = p.order }
 parted-kept me x _ (learns y below ne) h p = record { leaves = p.leaves; order = p.order }
 parted-kept me x _ (pends q may) h p = record { leaves = p.leaves; order = p.order }

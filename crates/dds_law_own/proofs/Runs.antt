@@ -26,7 +26,7 @@ use Rattle.dds_law_own.proofs.Changes.{own}
 use Rattle.dds_law_own.proofs.Keeps.{AreOwn, NodeOk, own-over}
 use Rattle.dds_law_own.proofs.Lists.{each-is, in-all, in-empty, none-passes, pair-at}
 use Rattle.dds_law_own.proofs.Opened.{opening-disjoint}
-use Rattle.dds_law_own.proofs.Owned.{Apart, Free, Named}
+use Rattle.dds_law_own.proofs.Owned.{Apart, Free, Named, Unknown}
 use Rattle.dds_law_own.proofs.Parted.{IsBoth}
 use Rattle.dds_law_own.specs.Law.{BricksKeepTheirOwn}
 
@@ -54,6 +54,7 @@ start-brick o k h =
         order = tt;
         apart = tt;
         free = tt;
+        holders = tt;
       },
       record { leaves = opening-disjoint o.leaves (λ (l : Leaf). has l.list k) h.apart; order = tt },
     )
@@ -80,6 +81,7 @@ bricks-keep o journal brick s h run there =
       lists = λ name leaf e. (each-is (Named brick name) (get s.leaves name) leaf e (g.0.leaves name)).1;
       disjoint = λ a b x y e f over. g.1.leaves a b (ap is_some e) (ap is_some f) over;
       apart = λ at also a b lt e f. pair-at Apart s.locks.leases at also a b g.0.apart lt e f;
+      holders = λ at a e. all-is (Unknown s.known) s.locks.leases at a g.0.holders e;
       free = λ at also a p e f.
           all-is (λ (q : Pending). covers a.name (the_key q.op) ≡ false) s.locks.pending also p
           (none-passes (λ (q : Pending). covers a.name (the_key q.op)) s.locks.pending (all-is (Free s.locks.pending) s.locks.leases at a g.0.free e)) f;

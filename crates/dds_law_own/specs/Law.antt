@@ -3,6 +3,7 @@ use Rattle.std.specs.Prelude.{ℕ, ◌≡◌, ◌<◌, true, false, List, Some, 
 use Rattle.std.specs.FinMap.{get}
 use Rattle.dds_base.specs.BrickList.{has}
 use Rattle.dds_base.specs.Name.{Name, covers, overlaps}
+use Rattle.dds_base.specs.NodeSet.{has_node}
 use Rattle.dds_base.specs.Op.{the_key}
 use Rattle.dds_base.specs.declared.leaf.Leaf.{Leaf}
 use Rattle.dds_base.specs.declared.number.NodeNo.{NodeNo}
@@ -15,8 +16,8 @@ use Rattle.dds_script.specs.Opening.{IsOpening, OpeningOf}
 use Rattle.dds_states.specs.declared.brick_state.BrickState.{BrickState}
 use Rattle.dds_world.specs.Places.{reached}
 
--- a brick of a world: its leaves stand under their names, list it, and have no key in common; nor have two leases; and no update
--- is pending on a key under a lease
+-- a brick of a world: its leaves stand under their names, list it, and have no key in common; nor have two leases; who holds a
+-- lease isn't known to have stopped; and no update is pending on a key under a lease
 pub record KeepsItsOwn (w : World) (brick : NodeNo) (s : BrickState) : Type 0 where
   pub named : (name : Name) (leaf : Leaf) → get s.leaves name ≡ Some leaf → leaf.name ≡ name
   pub lists : (name : Name) (leaf : Leaf) → get s.leaves name ≡ Some leaf → has leaf.list brick ≡ true
@@ -25,6 +26,7 @@ pub record KeepsItsOwn (w : World) (brick : NodeNo) (s : BrickState) : Type 0 wh
   pub apart :
       (at also : ℕ) (a b : Lease) → at < also → slice_get s.locks.leases at ≡ Some a → slice_get s.locks.leases also ≡ Some b
       → overlaps a.name b.name ≡ false
+  pub holders : (at : ℕ) (a : Lease) → slice_get s.locks.leases at ≡ Some a → has_node s.known a.holder ≡ false
   pub free :
       (at also : ℕ) (a : Lease) (p : Pending) → slice_get s.locks.leases at ≡ Some a → slice_get s.locks.pending also ≡ Some p
       → covers a.name (the_key p.op) ≡ false
