@@ -120,7 +120,7 @@ served m o made Split = put (put (remove m o.name) made) (sibling made)
 pub data Change (x : Own) : Own → Type 0 where
   takes : (mine leaf : Leaf) → MayTake x mine leaf → Change x (record x { leaves = replaced x.leaves mine leaf })
   installs : (mine leaf : Leaf) (from : NodeNo) → MayInstall x mine leaf from → Change x (record x { leaves = replaced x.leaves mine leaf })
-  gives : (name : Name) (leaf : Leaf) (holder : NodeNo) → get x.leaves name ≡ Some leaf → IsFree x name
+  gives : (name : Name) (leaf : Leaf) (holder : NodeNo) → get x.leaves name ≡ Some leaf → IsFree x name → has_node x.known holder ≡ false
       → Change x (record x { leases = x.leases ++ record { name = name; holder = holder } ∷ [] })
   releases : (name : Name) (holder : NodeNo) → Change x (record x { leases = lease.released x.leases name holder })
   learns : (y : NodeNo) → y < 80 → (y ≡ x.number → ⊥) → Change x (record x { known = with_node x.known y; leases = lease.released_all x.leases y })

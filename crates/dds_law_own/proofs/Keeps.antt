@@ -1,4 +1,4 @@
-use Rattle.std.proofs.Common.{◌≡◌, ℕ, ◌≤◌, ◌==◌, ◌&&◌, Bool, true, false, not, List, ◌∷◌, refl, ap, ◌∙◌, subst}
+use Rattle.std.proofs.Common.{◌≡◌, ℕ, ◌≤◌, ◌==◌, ◌&&◌, Bool, true, false, not, List, ◌∷◌, refl, sym, ap, ◌∙◌, subst}
 use Rattle.std.proofs.lemmas.Bool.{both_ways, eq-eqb}
 use Rattle.dds_core.specs.Brick.{brick_input, live_brick_turn}
 use Rattle.dds_letters.specs.declared.letter.Letter.{Letter}
@@ -13,17 +13,19 @@ use Rattle.dds_states.specs.declared.brick_state.BrickState.{BrickState}
 use Rattle.dds_cluster.specs.declared.trace.Caller.{Caller}
 use Rattle.dds_law_notice.proofs.Keeps.{AreLinked}
 use Rattle.dds_law_notice.proofs.Link.{Link, Silent, lives, over, told}
-use Rattle.dds_law_notice.proofs.Views.{none-known, view}
+use Rattle.dds_law_notice.proofs.Views.{knows, none-known, view}
 use Rattle.dds_law_own.proofs.Changes.{own, way-keeps}
 use Rattle.dds_law_own.proofs.LetterWays.{IsOfAnother, letter-way, order-way}
 use Rattle.dds_law_own.proofs.Lists.{in-empty}
-use Rattle.dds_law_own.proofs.Owned.{IsOwn, Named, own-kept}
+use Rattle.dds_law_own.proofs.Opened.{empty-disjoint}
+use Rattle.dds_law_own.proofs.Owned.{Named}
+use Rattle.dds_law_own.proofs.Parted.{IsBoth, both-kept}
 
 -- Each event keeps what is so of one brick. Only this is wanted of others: a brick has no notice of itself (the law of notices).
 
 abbrev pub NodeOk : ℕ → Node → Type 0
 NodeOk k nowhere = Unit {0}
-NodeOk k (a_brick s) = IsOwn k (own s)
+NodeOk k (a_brick s) = IsBoth k (own s)
 NodeOk k (a_library s) = Unit {0}
 
 abbrev pub AreOwn : Net → Type 0
@@ -42,6 +44,12 @@ no-self a n = ap (λ c. a && not c) (eq-eqb n n refl) ∙ and-false a
     and-false true = refl
     and-false false = refl
 
+-- who has a letter on its way isn't known
+not-known : {deaf stopped known : Bool} (c rest : List Letter) (l : Letter) → c ≡ l ∷ rest → Link deaf c stopped known → known ≡ false
+not-known c rest l e (lives h) = refl
+not-known c rest l e (told front is h) = refl
+not-known c rest l e (over known is h) = let no = sym is ∙ e in cc
+
 own-notice : (z : Sizes) (n : Net) (at from : ℕ) (s : BrickState) → AreLinked z n → Takes z n at from letter.Notice (a_brick s) → from ≡ at → ⊥
 own-notice z n at from s g f e =
     let first = subst (λ i. n.channel i at ≡ letter.Notice ∷ f.letter.others) e f.letter.first in
@@ -53,6 +61,8 @@ of-another : (z : Sizes) (n : Net) (at from : ℕ) (l : Letter) (s : BrickState)
 of-another z n at from l s few some g f number =
     record {
       below = node-below z from few some f.letter.sender;
+      unknown = not-known (n.channel from at) f.letter.others l f.letter.first (subst (λ (y : Node). Link (view y).stopped (n.channel from at)
+          ((view (n.node from)).stopped && not (from == at)) (knows (view y) from)) f.here (g from at f.letter.receiver));
       other = λ is e. own-notice z n at from s g (subst (λ m. Takes z n at from m (a_brick s)) is f) (e ∙ number);
     }
 
@@ -62,14 +72,16 @@ becomes z cs n nothing few some l f g = tt
 becomes z cs n (unheard at from m) few some l f g = tt
 becomes z cs n (unasked at caller call o) few some l f g = tt
 becomes z cs n (brick_takes at from m s) few some l f g =
-    let ok : IsOwn at (own s) = subst (NodeOk at) f.here (g at) in
-    way-keeps (IsOwn at) (own-kept at) (own s) (own (live_brick_turn s from m).state)
-    (letter-way s from m (of-another z n at from m s few some l f ok.number)).way ok
+    let ok : IsBoth at (own s) = subst (NodeOk at) f.here (g at) in
+    way-keeps (IsBoth at) (both-kept at) (own s) (own (live_brick_turn s from m).state)
+    (letter-way s from m (of-another z n at from m s few some l f ok.0.number)).way ok
 becomes z cs n (brick_told at o s) few some l f g =
-    way-keeps (IsOwn at) (own-kept at) (own s) (own (brick_input s o).state) (order-way s o).way (subst (NodeOk at) f.here (g at))
+    way-keeps (IsBoth at) (both-kept at) (own s) (own (brick_input s o).state) (order-way s o).way (subst (NodeOk at) f.here (g at))
 becomes z cs n (brick_stops at s kept) few some l f g =
-    let ok : IsOwn at (own s) = subst (NodeOk at) f.here (g at) in
-    record { number = ok.number; alone = none-known at; leaves = in-empty (Named at); order = tt; apart = tt; free = tt }
+    let ok : IsBoth at (own s) = subst (NodeOk at) f.here (g at) in (
+      record { number = ok.0.number; alone = none-known at; leaves = in-empty (Named at); order = tt; apart = tt; free = tt; holders = tt },
+      record { leaves = empty-disjoint; order = tt },
+    )
 becomes z cs n (library_takes at from m s) few some l f g = tt
 becomes z cs n (library_asked at caller call o s) few some l f g = tt
 becomes z cs n (library_stops at s kept) few some l f g = tt

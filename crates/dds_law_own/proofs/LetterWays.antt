@@ -1,4 +1,5 @@
-use Rattle.std.proofs.Common.{◌≡◌, ◌<◌, refl}
+use Rattle.std.proofs.Common.{◌≡◌, ◌<◌, false, refl}
+use Rattle.dds_base.specs.NodeSet.{has_node}
 use Rattle.dds_base.specs.declared.number.NodeNo.{NodeNo}
 use Rattle.dds_base.specs.declared.op.Order.{Order}
 use Rattle.dds_base.specs.declared.op.Order.TheVariants as the_order
@@ -15,9 +16,10 @@ use Rattle.dds_law_own.proofs.Ways as rows
 
 -- The changes of a live brick's turn at each letter, and at an order.
 
--- a node's number, and the letter is no notice of the brick itself
+-- a node's number, that of one that isn't known to have stopped; and the letter is no notice of the brick itself
 pub record IsOfAnother (s : BrickState) (from : NodeNo) (l : Letter) : Type 0 where
   pub below : from < 80
+  pub unknown : has_node s.known from ≡ false
   pub other : l ≡ letter.Notice → from ≡ s.number → ⊥
 
 notice-way : (s : BrickState) (y : NodeNo) → y < 80 → (y ≡ s.number → ⊥) → Goes (own s) (notices.notice_row s y)
@@ -40,7 +42,7 @@ letter-way s from (letter.Help txn list) h = rows.help_row s from txn list
 letter-way s from (letter.Query txn list) h = rows.query_row s from txn list
 letter-way s from (letter.Status txn status) h = rows.all_hear s from (news.Told txn status)
 letter-way s from (letter.Outcome txn commit) h = rows.outcome_row s txn commit
-letter-way s from (letter.Lease number what) h = rows.lease_row s from number what
+letter-way s from (letter.Lease number what) h = rows.lease_row s from number what h.unknown
 letter-way s from (letter.Granted number leaf) h = orders.granted_row s from number leaf
 letter-way s from (letter.LeaseRefused number why) h = orders.lease_refused_row s from number why
 letter-way s from (letter.Release number name) h = does _ (releases name from)

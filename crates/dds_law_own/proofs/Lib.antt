@@ -4,5 +4,9 @@ pub mod OrderWays
 pub mod LetterWays
 pub mod Lists
 pub mod Owned
+pub mod Halves
+pub mod Disjoint
+pub mod Parted
+pub mod Opened
 pub mod Keeps
 pub mod Runs

@@ -46,6 +46,18 @@ pub all-released : (P : Lease → Type 0) (ls : List Lease) (y : ℕ) → AllByR
 all-released P [] y h = tt
 all-released P (l ∷ ls) y h = all-released-if P (l.holder == y) l (released_all ls y) h.0 (all-released P ls y h.1)
 
+others-if : (P : Lease → Type 0) (c : Bool) (x : Lease) (xs : List Lease) (y : ℕ) → (x.holder == y) ≡ c → P x
+    → AllByRecursion (λ (l : Lease). P l × ((l.holder == y) ≡ false)) xs
+    → AllByRecursion (λ (l : Lease). P l × ((l.holder == y) ≡ false)) (if c then xs else x ∷ xs)
+others-if P true x xs y e h k = k
+others-if P false x xs y e h k = ((h, e), k)
+
+-- those of other holders
+pub others-released : (P : Lease → Type 0) (ls : List Lease) (y : ℕ) → AllByRecursion P ls
+    → AllByRecursion (λ (l : Lease). P l × ((l.holder == y) ≡ false)) (released_all ls y)
+others-released P [] y h = tt
+others-released P (l ∷ ls) y h = others-if P (l.holder == y) l (released_all ls y) y refl h.0 (others-released P ls y h.1)
+
 pairs-released-if : (R : Lease → Lease → Type 0) (c : Bool) (x : Lease) (xs : List Lease) → AllByRecursion (R x) xs → Pairwise R xs
     → Pairwise R (if c then xs else x ∷ xs)
 pairs-released-if R true x xs h k = k

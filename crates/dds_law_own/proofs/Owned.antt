@@ -5,9 +5,10 @@ use Rattle.std.specs.List.{AllByRecursion}
 use Rattle.std.specs.Prelude.{if◌then◌else◌}
 use Rattle.dds_base.specs.BrickList.{has}
 use Rattle.dds_base.specs.Name.{Name, covers, overlaps}
-use Rattle.dds_base.specs.NodeSet.{has_node}
+use Rattle.dds_base.specs.NodeSet.{has_node, with_node}
 use Rattle.dds_base.specs.Op.{the_key}
 use Rattle.dds_base.specs.declared.leaf.Leaf.{Leaf}
+use Rattle.dds_base.specs.declared.node_set.NodeSet.{NodeSet}
 use Rattle.dds_base.specs.declared.pending.Pending.{Pending}
 use Rattle.dds_brick_rows.specs.Refusal.{is_join}
 use Rattle.dds_brick_rows.specs.Take.{high_of, is_low, low_of, replaced}
@@ -31,7 +32,8 @@ use Rattle.dds_trie.specs.Trie.{LeafMap}
 use Rattle.dds_world.specs.Groups as world
 use Rattle.dds_law_own.proofs.Changes.{Change, IsNewJoin, IsNewSplit, MayMake, Own, closes, copies, drops, fixes, gives, installs, joins, kept_leases}
 use Rattle.dds_law_own.proofs.Changes.{learns, makes, pends, releases, served, serves, splits, takes, waits}
-use Rattle.dds_law_own.proofs.Lists.{ByName, Each, all-first, all-released, has-kept, has-last, in-put, in-remove, none-passes, pairs-first, pairs-released}
+use Rattle.dds_law_own.proofs.Lists.{ByName, Each, all-first, all-released, has-kept, has-last, in-put, in-remove, none-passes, others-released}
+use Rattle.dds_law_own.proofs.Lists.{pairs-first, pairs-released}
 use Rattle.dds_law_own.proofs.Lists.{passes-none, each-is}
 
 -- The invariant, of one brick by itself.
@@ -44,6 +46,7 @@ use Rattle.dds_law_own.proofs.Lists.{passes-none, each-is}
 -- | a split's; the leaf that is made lists it                               | among the brick's                 | to install               |
 -- | `apart`: leases have no key in common | claimed | Lease, the order Split |
 -- | `free`: no update is pending on a key under a lease | claimed | Lease, the order Split; Prepare |
+-- | `holders`: who holds a lease isn't known to have stopped | claimed | Lease, the order Split; Notice |
 
 abbrev pub Named : ℕ → Name → Leaf → Type 0
 Named me name leaf = (leaf.name ≡ name) × (has leaf.list me ≡ true)
@@ -67,6 +70,10 @@ Apart a b = overlaps a.name b.name ≡ false
 abbrev pub Free : List Pending → Lease → Type 0
 Free ps l = locks.any_under ps l.name ≡ false
 
+-- who holds a lease isn't known to have stopped
+abbrev pub Unknown : NodeSet → Lease → Type 0
+Unknown known l = has_node known l.holder ≡ false
+
 pub record IsOwn (me : ℕ) (x : Own) : Type 0 where
   pub number : x.number ≡ me
   pub alone : has_node x.known me ≡ false
@@ -74,6 +81,7 @@ pub record IsOwn (me : ℕ) (x : Own) : Type 0 where
   pub order : Orderly me x.order
   pub apart : Pairwise Apart x.leases
   pub free : AllByRecursion (Free x.pending) x.leases
+  pub holders : AllByRecursion (Unknown x.known) x.leases
 
 -- leaves
 replaced-if : (me : ℕ) (c : Bool) (m n : LeafMap) → ByName (Named me) m → ByName (Named me) n → ByName (Named me) (if c then m else n)
@@ -134,10 +142,10 @@ apart-kept : (ls : List Lease) (test : Lease → Bool) (c : Bool) → Pairwise A
 apart-kept ls test true h = h
 apart-kept ls test false h = pairs-first Apart test ls h
 
-free-kept : (ps : List Pending) (ls : List Lease) (test : Lease → Bool) (c : Bool) → AllByRecursion (Free ps) ls
-    → AllByRecursion (Free ps) (if c then ls else without_first test ls)
-free-kept ps ls test true h = h
-free-kept ps ls test false h = all-first (Free ps) test ls h
+all-kept : (P : Lease → Type 0) (ls : List Lease) (test : Lease → Bool) (c : Bool) → AllByRecursion P ls
+    → AllByRecursion P (if c then ls else without_first test ls)
+all-kept P ls test true h = h
+all-kept P ls test false h = all-first P test ls h
 
 pending-more : (ps : List Pending) (p : Pending) (ls : List Lease) → lease.lease_covers ls (the_key p.op) ≡ false → AllByRecursion (Free ps) ls
     → AllByRecursion (Free (ps ++ p ∷ [])) ls
@@ -157,10 +165,10 @@ pending-less ps test ls h =
 -- each change
 module _ {me : ℕ} (x : Own) (h : IsOwn me x) where
   with-leaves : (m : LeafMap) → ByName (Named me) m → IsOwn me (record x { leaves = m })
-  with-leaves m k = record { number = h.number; alone = h.alone; leaves = k; order = h.order; apart = h.apart; free = h.free }
+  with-leaves m k = record { number = h.number; alone = h.alone; leaves = k; order = h.order; apart = h.apart; free = h.free; holders = h.holders }
 
   with-order : (q : Option OpenOrder) → Orderly me q → IsOwn me (record x { order = q })
-  with-order q k = record { number = h.number; alone = h.alone; leaves = h.leaves; order = k; apart = h.apart; free = h.free }
+  with-order q k = record { number = h.number; alone = h.alone; leaves = h.leaves; order = k; apart = h.apart; free = h.free; holders = h.holders }
 
   -- the open order with other lists
   its : (o : OpenOrder) → x.order ≡ Some o → IsOrderly me o
@@ -169,9 +177,9 @@ module _ {me : ℕ} (x : Own) (h : IsOwn me x) where
   taken : (mine leaf : Leaf) → has leaf.list x.number ≡ true → IsOwn me (record x { leaves = replaced x.leaves mine leaf })
   taken mine leaf e = with-leaves _ (leaves-replaced me x.leaves mine leaf (subst (λ i. has leaf.list i ≡ true) h.number e) h.leaves)
 
-  given : (l : Lease) (q : Option OpenOrder) → lease.leased x.leases l.name ≡ None → Free x.pending l → Orderly me q
+  given : (l : Lease) (q : Option OpenOrder) → lease.leased x.leases l.name ≡ None → Free x.pending l → Orderly me q → Unknown x.known l
       → IsOwn me (record x { order = q; leases = x.leases ++ l ∷ [] })
-  given l q e f k =
+  given l q e f k u =
       record {
         number = h.number;
         alone = h.alone;
@@ -179,6 +187,7 @@ module _ {me : ℕ} (x : Own) (h : IsOwn me x) where
         order = k;
         apart = apart-more x.leases l e h.apart;
         free = all-append (Free x.pending) x.leases (l ∷ []) h.free (f, tt);
+        holders = all-append (Unknown x.known) x.leases (l ∷ []) h.holders (u, tt);
       }
 
   over-with : (o : OpenOrder) (m : LeafMap) → ByName (Named me) m → IsOwn me (record x { leaves = m; order = None; leases = kept_leases x o })
@@ -189,7 +198,8 @@ module _ {me : ℕ} (x : Own) (h : IsOwn me x) where
         leaves = k;
         order = tt;
         apart = apart-kept x.leases (lease.is_lease o.name x.number) (is_join o.task) h.apart;
-        free = free-kept x.pending x.leases (lease.is_lease o.name x.number) (is_join o.task) h.free;
+        free = all-kept (Free x.pending) x.leases (lease.is_lease o.name x.number) (is_join o.task) h.free;
+        holders = all-kept (Unknown x.known) x.leases (lease.is_lease o.name x.number) (is_join o.task) h.holders;
       }
 
   split-order : (o : OpenOrder) (leaf : Leaf) → IsNewSplit x o leaf → IsOrderly me o
@@ -220,7 +230,8 @@ module _ {me : ℕ} (x : Own) (h : IsOwn me x) where
 pub own-kept : (me : ℕ) (x y : Own) → Change x y → IsOwn me x → IsOwn me y
 own-kept me x _ (takes mine leaf may) h = taken x h mine leaf may.lists
 own-kept me x _ (installs mine leaf from may) h = taken x h mine leaf may.lists
-own-kept me x _ (gives name leaf holder there free) h = given x h (record { name = name; holder = holder }) x.order free.unleased free.unlocked h.order
+own-kept me x _ (gives name leaf holder there free unknown) h =
+    given x h (record { name = name; holder = holder }) x.order free.unleased free.unlocked h.order unknown
 own-kept me x _ (releases name holder) h =
     record {
       number = h.number;
@@ -229,6 +240,7 @@ own-kept me x _ (releases name holder) h =
       order = h.order;
       apart = pairs-first Apart (lease.is_lease name holder) x.leases h.apart;
       free = all-first (Free x.pending) (lease.is_lease name holder) x.leases h.free;
+      holders = all-first (Unknown x.known) (lease.is_lease name holder) x.leases h.holders;
     }
 own-kept me x _ (learns y below ne) h =
     record {
@@ -238,16 +250,20 @@ own-kept me x _ (learns y below ne) h =
       order = h.order;
       apart = pairs-released Apart x.leases y h.apart;
       free = all-released (Free x.pending) x.leases y h.free;
+      holders = all-map (λ (l : Lease). Unknown x.known l × ((l.holder == y) ≡ false)) (Unknown (with_node x.known y)) (lease.released_all x.leases y)
+          (λ l k. has-with x.known y l.holder below ∙ ap (λ c. c || has_node x.known l.holder) k.1 ∙ k.0)
+          (others-released (Unknown x.known) x.leases y h.holders);
     }
 own-kept me x _ (pends p may) h =
     let free = pending-more x.pending p x.leases may.unleased h.free in
-    record { number = h.number; alone = h.alone; leaves = h.leaves; order = h.order; apart = h.apart; free = free }
+    record { number = h.number; alone = h.alone; leaves = h.leaves; order = h.order; apart = h.apart; free = free; holders = h.holders }
 own-kept me x _ (drops txn) h =
     let free = pending-less x.pending (locks.is_numbered txn) x.leases h.free in
-    record { number = h.number; alone = h.alone; leaves = h.leaves; order = h.order; apart = h.apart; free = free }
+    record { number = h.number; alone = h.alone; leaves = h.leaves; order = h.order; apart = h.apart; free = free; holders = h.holders }
 own-kept me x _ (joins o n) h = with-order x h (Some o) (join-order x h o n)
 own-kept me x _ (splits o leaf n) h =
     given x h (record { name = leaf.name; holder = x.number }) (Some o) n.unleased n.unlocked (split-order x h o leaf n)
+    (ap (has_node x.known) h.number ∙ h.alone)
 own-kept me x _ (waits o granted waiting copied e) h =
     let it = its x h o e in
     with-order x h (Some (record o { granted = granted; waiting = waiting; copied = copied })) (record { leaf = it.leaf; made = it.made })

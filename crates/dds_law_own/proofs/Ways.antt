@@ -1,4 +1,4 @@
-use Rattle.std.proofs.Common.{◌≡◌, ℕ, ◌&&◌, ◌||◌, ◌++◌, Bool, true, false, not, Option, Some, None, List, [], ◌∷◌, refl, sym, subst}
+use Rattle.std.proofs.Common.{◌≡◌, ℕ, ◌&&◌, ◌||◌, ◌++◌, Bool, true, false, not, Option, Some, None, List, [], ◌∷◌, refl, sym, ap, ◌∙◌, subst}
 use Rattle.std.proofs.lemmas.Bool.{and_parts, not-true}
 use Rattle.std.specs.FinMap.{get}
 use Rattle.std.specs.Prelude.{is_some, if◌then◌else◌}
@@ -236,22 +236,34 @@ taking s leaf (Some mine) e =
 pub take : (s : BrickState) (leaf : Leaf) → Way (own s) (own (takes.take s leaf))
 take s leaf = taking s leaf (own_leaf s.leaves leaf.name) refl
 
+known-if : (c : Bool) (s u : BrickState) → u.known ≡ s.known → (if c then u else s).known ≡ s.known
+known-if true s u e = e
+known-if false s u e = refl
+
+take-known : (s : BrickState) (leaf : Leaf) (mine : Option Leaf) → (takes.take_over s leaf mine).known ≡ s.known
+take-known s leaf None = refl
+take-known s leaf (Some mine) =
+    known-if (may_take s.number mine leaf (has_node s.known) (takes.is_free s mine.name)) s
+    (record s { leaves = takes.replaced s.leaves mine leaf }) refl
+
 -- orders of other bricks
 granting : (s : BrickState) (from : NodeNo) (order : ℕ) (name : Name) (leaf : Option Leaf) → get s.leaves name ≡ leaf → IsFree (own s) name
-    → Goes (own s) (orders.granted s from order name leaf)
-granting s from order name None e f = same _
-granting s from order name (Some leaf) e f = does _ (gives name leaf from e f)
+    → has_node s.known from ≡ false → Goes (own s) (orders.granted s from order name leaf)
+granting s from order name None e f u = same _
+granting s from order name (Some leaf) e f u = does _ (gives name leaf from e f u)
 
 answered : (s : BrickState) (from : NodeNo) (order : ℕ) (name : Name) (stamp : Option StampOf) (r : Option Refusal) → lease_refusal s name stamp ≡ r
-    → Goes (own s) (orders.lease_answered s from order name r)
-answered s from order name stamp None e = granting s from order name (get s.leaves name) refl (free-lease s name stamp e)
-answered s from order name stamp (Some why) e = same _
+    → has_node s.known from ≡ false → Goes (own s) (orders.lease_answered s from order name r)
+answered s from order name stamp None e u = granting s from order name (get s.leaves name) refl (free-lease s name stamp e) u
+answered s from order name stamp (Some why) e u = same _
 
-pub lease_row : (s : BrickState) (from : NodeNo) (order : ℕ) (what : Wanted) → Goes (own s) (orders.lease_row s from order what)
-lease_row s from order (wanted.Name name) = answered s from order name None (lease_refusal s name None) refl
-lease_row s from order (wanted.Leaf leaf) =
+pub lease_row : (s : BrickState) (from : NodeNo) (order : ℕ) (what : Wanted) → has_node s.known from ≡ false
+    → Goes (own s) (orders.lease_row s from order what)
+lease_row s from order (wanted.Name name) u = answered s from order name None (lease_refusal s name None) refl u
+lease_row s from order (wanted.Leaf leaf) u =
     let t = takes.take s leaf in
-    after _ (take s leaf) (answered t from order leaf.name (Some leaf.stamp) (lease_refusal t leaf.name (Some leaf.stamp)) refl)
+    let known : has_node t.known from ≡ false = ap (λ k. has_node k from) (take-known s leaf (own_leaf s.leaves leaf.name)) ∙ u in
+    after _ (take s leaf) (answered t from order leaf.name (Some leaf.stamp) (lease_refusal t leaf.name (Some leaf.stamp)) refl known)
 
 pub copy_ask_row : (s : BrickState) (from : NodeNo) (order : ℕ) (name : Name) (after : Option ℕ) → Goes (own s) (orders.copy_ask_row s from order name after)
 copy_ask_row s from order name after = goes-if _ (same _) (same _)
