@@ -1,0 +1,4 @@
+pub mod Calls
+pub mod Placed
+pub mod Books
+pub mod Law

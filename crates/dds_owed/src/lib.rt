@@ -1,0 +1,4 @@
+//! What links and books give two-phase commit.
+#![tactic(auto)]
+
+pub mod laws;

@@ -1,0 +1,40 @@
+use Rattle.std.proofs.Common.{◌≡◌, ℕ, ◌⊎◌, inl, inr, Bool, true, false, List, [], ◌∷◌, ◌++◌, refl, ap, ◌∙◌, subst}
+use Rattle.dds_base.specs.Number.{Txn}
+use Rattle.dds_brick_rows.specs.Resolution.{is_ready}
+use Rattle.dds_letters.specs.declared.letter.Letter.{Letter}
+use Rattle.dds_letters.specs.declared.letter.Letter.TheVariants as letter
+use Rattle.dds_net.specs.Net.{Net}
+use Rattle.dds_states.specs.declared.brick_state.BrickState.{BrickState}
+use Rattle.dds_talk.proofs.Parts.{same-self}
+use Rattle.dds_talk.proofs.Resolving as moves
+use Rattle.dds_talk.specs.Resolve.{Agreed, Resolves}
+use Rattle.dds_talk.specs.Resolve.Tell.{outcome}
+use Rattle.dds_talk.specs.Seen.{about, one}
+use Rattle.dds_talk.specs.Table.{At}
+use Rattle.dds_talk.specs.Table.At.{N, P, C, A}
+use Rattle.dds_resolve.specs.Resolved.{Pair, Resolve}
+use Rattle.dds_resolve.specs.Resolving.{own_at, side, status_in, tell_in}
+
+-- What the conversations say of outcomes: one that a live resolver tells a live member is what was decided, and the member is ready;
+-- members that fit what was decided agree, and a decided commit has reached them.
+
+pub outcome-told : (n : Net) (list : Txn → List ℕ) (decided : Txn → Bool) (t : Txn) (f m : ℕ) (x y : BrickState) (c : Bool) (rest : List Letter) →
+    Resolve n list decided
+    → Pair n list t f m x y → y.stopped ≡ false → n.channel f m ≡ letter.Outcome t c ∷ rest → (c ≡ decided t) × (is_ready y.known t (list t) f ≡ true)
+outcome-told n list decided t f m x y c rest h p lives first =
+    let k = h.alive t f m x y p lives in
+    let front : about tell_in t (n.channel f m) ≡ outcome c ∷ about tell_in t rest = ap (about tell_in t) first
+    ∙ ap (λ b. one b (outcome c) ++ about tell_in t rest) (same-self t) in
+    let q = moves.takes (subst (λ o. Resolves (decided t) (side x t m) (o ++ []) k.put (is_ready y.known t (list t) f) (own_at y t)
+    (about status_in t (n.channel m f))) front k.now) in
+    (q.1, q.2)
+
+pub one-outcome : (d : Bool) → Agreed d C → Agreed d A → ⊥
+one-outcome true h k = k
+one-outcome false h k = h
+
+pub commit-reached : (a : At) → Agreed true a → (a ≡ P) ⊎ (a ≡ C)
+commit-reached N h = absurd h
+commit-reached P h = inl refl
+commit-reached C h = inr refl
+commit-reached A h = absurd h

@@ -1,0 +1,4 @@
+//! How bricks resolve what a stopped library left.
+#![tactic(auto)]
+
+pub mod laws;
