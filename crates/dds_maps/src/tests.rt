@@ -6,68 +6,84 @@ use dds_base::leaf::Leaf;
 use dds_base::name::LeafName;
 use dds_base::node_set::NodeSet;
 use dds_base::number::{NodeNo, Stamp};
-use std::process::Abort;
+use std::alloc::Global;
 use std::test::Fail;
 
-fn leaf(rt: &impl Abort, bits: u16, depth: u8, epoch: u64, stamp: Stamp) -> Leaf {
-    Leaf {
-        name: LeafName::of(bits, depth).expect(rt, "a name"),
+/// The opening leaf of this name and epoch, whose stamp has the epoch's number.
+fn leaf((bits, depth): (u16, u8), epoch: u64) -> Option<Leaf> {
+    Some(Leaf {
+        name: LeafName::of(bits, depth)?,
         epoch,
-        stamp,
+        stamp: Stamp::opening(epoch),
         prev: Stamp::opening(0),
-        list: BrickList::of(&[0, 2]).expect(rt, "a list"),
-    }
+        list: BrickList::of(&[0, 2])?,
+    })
+}
+
+/// How the leaf of this name and epoch stands for a key, in a map of 0/0 at epoch 1 and 1/1 at epoch 2.
+fn standing(alloc: Global, key: u64, name: (u16, u8), epoch: u64) -> Option<Standing> {
+    let leaves = [leaf((0, 0), 1)?, leaf((1, 1), 2)?];
+    let maps = Maps::new(alloc, &leaves).ok()?;
+    Some(maps.stands(key, LeafName::of(name.0, name.1)?, Stamp::opening(epoch)))
 }
 
 #[test]
 fn a_map_stands_by_its_deepest_leaf(rt: HostRuntime) -> Result<(), Fail> {
-    let maps = Maps::new(
-        rt.alloc(),
-        &[
-            leaf(&rt, 0, 0, 1, Stamp::opening(0)),
-            leaf(&rt, 1, 1, 2, Stamp::opening(1)),
-        ],
-    )?;
-    let whole = LeafName::of(0, 0).expect(&rt, "a name");
-    let half = LeafName::of(1, 1).expect(&rt, "a name");
-    assert_eq!(rt; maps.stands(4, whole, Stamp::opening(0)), Standing::Same);
-    assert_eq!(rt; maps.stands(5, half, Stamp::opening(1)), Standing::Same);
-    let other = Standing::Other(leaf(&rt, 1, 1, 2, Stamp::opening(1)));
-    assert_eq!(rt; maps.stands(5, whole, Stamp::opening(0)), other);
-    let empty = Maps::new(rt.alloc(), &[])?;
-    assert_eq!(rt; empty.stands(5, half, Stamp::opening(1)), Standing::NotHere);
+    let half = leaf((1, 1), 2).ok_or("no leaf")?;
+    for (key, name, epoch, want) in [
+        (4, (0, 0), 1, Standing::Same),
+        (5, (1, 1), 2, Standing::Same),
+        (5, (0, 0), 1, Standing::Other(half)),
+        (5, (1, 1), 1, Standing::Other(half)),
+    ] {
+        let found = standing(rt.alloc(), key, name, epoch);
+        assert_eq!(rt; found, Some(want), "key {key} at epoch {epoch}");
+    }
     Ok(())
+}
+
+/// Judges a brick's leaf of this epoch by a library's.
+fn judged(mine: u64, theirs: Option<u64>) -> Option<Judgement> {
+    let mine = leaf((0, 0), mine)?;
+    match theirs {
+        Some(epoch) => Some(judge(&mine, Some(&leaf((0, 0), epoch)?))),
+        None => Some(judge(&mine, None)),
+    }
 }
 
 #[test]
 fn the_newer_of_two_leaves_is_ahead(rt: HostRuntime) {
-    let older = leaf(&rt, 0, 0, 1, Stamp::opening(0));
-    let newer = leaf(&rt, 0, 0, 2, Stamp::opening(1));
-    assert_eq!(rt; judge(&older, None), Judgement::NotHere);
-    assert_eq!(rt; judge(&older, Some(&older)), Judgement::Same);
-    assert_eq!(rt; judge(&newer, Some(&older)), Judgement::BrickBehind);
-    assert_eq!(rt; judge(&older, Some(&newer)), Judgement::LibraryStale);
+    for (mine, theirs, want) in &[
+        (1, None, Judgement::NotHere),
+        (1, Some(1), Judgement::Same),
+        (2, Some(1), Judgement::BrickBehind),
+        (1, Some(2), Judgement::LibraryStale),
+    ] {
+        assert_eq!(rt; judged(*mine, *theirs), Some(*want), "epoch {mine}");
+    }
+}
+
+/// Whether brick 0, whose map is the leaf of this name, takes leaf 2/2 of brick 2, which stopped.
+fn takes(alloc: Global, own: (u16, u8), free: bool) -> Option<bool> {
+    let maker = NodeNo::brick(2)?;
+    let mut known = NodeSet::new();
+    known.add(maker);
+    let mut half = leaf((2, 2), 1)?;
+    half.epoch = 2;
+    half.stamp = Stamp::made_by(maker, 0);
+    half.prev = Stamp::opening(1);
+    let maps = Maps::new(alloc, &[leaf(own, 1)?]).ok()?;
+    Some(maps.may_take(NodeNo::brick(0)?, &half, &known, free))
 }
 
 #[test]
-fn a_brick_takes_a_half_of_its_own_leaf(rt: HostRuntime) -> Result<(), Fail> {
-    let maker = NodeNo::brick(2).expect(&rt, "a brick");
-    let mut known = NodeSet::new();
-    known.add(maker);
-    let half = leaf(&rt, 2, 2, 2, Stamp::made_by(maker, 0));
-    let me = NodeNo::brick(0).expect(&rt, "a brick");
-    for (bits, depth, want) in [(0, 1, true), (0, 0, false), (1, 1, false)] {
-        let maps = Maps::new(rt.alloc(), &[leaf(&rt, bits, depth, 1, Stamp::opening(0))])?;
-        assert_eq!(rt;
-            maps.may_take(me, &half, &known, true),
-            want,
-            "{bits}/{depth}"
-        );
-        assert_eq!(rt;
-            maps.may_take(me, &half, &known, false),
-            false,
-            "{bits}/{depth}"
-        );
+fn a_brick_takes_a_half_of_its_own_leaf(rt: HostRuntime) {
+    for (own, free, want) in &[
+        ((0, 1), true, true),
+        ((0, 1), false, false),
+        ((0, 0), true, false),
+        ((1, 1), true, false),
+    ] {
+        assert_eq!(rt; takes(rt.alloc(), *own, *free), Some(*want), "free {free}");
     }
-    Ok(())
 }

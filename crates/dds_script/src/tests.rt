@@ -5,8 +5,9 @@ use crate::read_line::read_line;
 use crate::read_script::read_script;
 use crate::script_error::ScriptKind::{Cover, Form, NoEnd, Number, Place, Value};
 use crate::script_error::{ScriptError, ScriptFault, ScriptKind};
-use dds_base::leaf::Leaf;
+use dds_base::number::{NodeNo, Stamp};
 use std::alloc::Global;
+use std::test::Fail;
 
 /// Scripts, and how many lines each has.
 const SCRIPTS: [(&str, usize); 6] = [
@@ -165,30 +166,25 @@ fn refuses_a_third_line(rt: HostRuntime) {
     }
 }
 
-/// The epoch of a leaf, and the makers and counts of its stamp and of the one before.
-fn numbers(leaf: &Leaf) -> [u64; 5] {
-    [
-        leaf.epoch,
-        u64::from(leaf.stamp.maker()),
-        leaf.stamp.count(),
-        u64::from(leaf.prev.maker()),
-        leaf.prev.count(),
-    ]
-}
-
-/// What is kept of the last leaf and of the last stale leaf.
-fn last_leaves(alloc: Global) -> Option<[[u64; 5]; 2]> {
+/// What is kept of the last leaf and of the last stale leaf: the epoch, the stamp and the one before.
+fn last_leaves(alloc: Global) -> Option<[(u64, Stamp, Stamp); 2]> {
     let bytes = b"cluster 2 2 1\nleaf 0/1 0\nleaf 1/1 1\nold 1 0/0 1\nold 0 0/0 0\nold 1 1/1 0\n";
     let script = read_script(alloc, bytes).ok()?;
-    let leaf = numbers(script.opening().leaves().last()?);
-    let old = numbers(script.opening().old().last()?);
-    Some([leaf, old])
+    let leaf = script.opening().leaves().last()?;
+    let old = script.opening().old().last()?;
+    Some([
+        (leaf.epoch, leaf.stamp, leaf.prev),
+        (old.epoch, old.stamp, old.prev),
+    ])
 }
 
 #[test]
-fn keeps_the_leaves(rt: HostRuntime) {
-    let wanted = [[1, 255, 1, 255, 1], [0, 65, 1, 65, 1]];
+fn keeps_the_leaves(rt: HostRuntime) -> Result<(), Fail> {
+    let opened = Stamp::opening(1);
+    let made = Stamp::made_by(NodeNo::library(1).ok_or("no library")?, 1);
+    let wanted = [(1, opened, opened), (0, made, made)];
     assert_eq!(rt; last_leaves(rt.alloc()), Some(wanted));
+    Ok(())
 }
 
 /// Lines, and the fault of each; `None` where it has none.

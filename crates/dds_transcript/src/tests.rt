@@ -1,9 +1,9 @@
-//! Lines of the transcript against their texts, and sinks that fail.
+//! Lines of the transcript and their texts.
 
+use crate::line_text::line_text;
 use crate::report_line::{Counted, OrderKind, ReportLine};
-use crate::write_lines::{WriteEnd, write_lines};
+use crate::write_lines::write_lines;
 use dds_base::brick_list::BrickList;
-use dds_base::memory::Memory;
 use dds_base::memory_sink::MemorySink;
 use dds_base::name::LeafName;
 use dds_base::number::{CallNo, CallerNo, NodeNo};
@@ -11,13 +11,6 @@ use dds_base::op::{Met, OrderReply, Reply};
 use dds_base::value::Value;
 use std::alloc::Global;
 use std::test::Fail;
-
-fn value(alloc: Global, bytes: &[u8]) -> Result<Value, Memory> {
-    match Value::of(alloc, bytes) {
-        Ok(value) => Ok(value),
-        Err(_) => Err(Memory),
-    }
-}
 
 fn answer(reply: Reply) -> ReportLine {
     ReportLine::Answer {
@@ -27,7 +20,27 @@ fn answer(reply: Reply) -> ReportLine {
     }
 }
 
-fn order_answer(kind: OrderKind, reply: OrderReply) -> ReportLine {
+/// The answers of calls, and the text of each.
+fn answers(alloc: Global) -> Option<[(ReportLine, &'static str); 11]> {
+    let (brick, name) = (NodeNo::brick(63)?, LeafName::of(2, 3)?);
+    let (lease, stopped) = (Met::Lease { brick }, Met::Stopped { brick });
+    let (two, none) = (Value::of(alloc, b"hi").ok()?, Value::of(alloc, b"").ok()?);
+    Some([
+        (answer(Reply::Value(two)), "3.12 value 6869"),
+        (answer(Reply::Value(none)), "3.12 value -"),
+        (answer(Reply::Absent), "3.12 absent"),
+        (answer(Reply::Done { was: true }), "3.12 done old"),
+        (answer(Reply::Done { was: false }), "3.12 done new"),
+        (answer(Reply::Swapped { done: true }), "3.12 swapped yes"),
+        (answer(Reply::Swapped { done: false }), "3.12 swapped no"),
+        (answer(Reply::Again(lease)), "3.12 again lease b63"),
+        (answer(Reply::Again(stopped)), "3.12 again stopped b63"),
+        (answer(Reply::Full { brick }), "3.12 full b63"),
+        (answer(Reply::Lost { name }), "3.12 lost 2/3"),
+    ])
+}
+
+fn order(kind: OrderKind, reply: OrderReply) -> ReportLine {
     ReportLine::OrderAnswer {
         kind,
         brick: NodeNo::brick(1).unwrap(),
@@ -35,97 +48,84 @@ fn order_answer(kind: OrderKind, reply: OrderReply) -> ReportLine {
     }
 }
 
-fn written(alloc: Global, lines: &[ReportLine]) -> Result<MemorySink, Memory> {
-    let mut sink = MemorySink::new(alloc, &[], 100, 1000)?;
-    match write_lines(alloc, lines, &mut sink) {
-        Ok(()) => Ok(sink),
-        Err(_) => Err(Memory),
+/// The answers of orders, and the text of each.
+fn order_answers() -> Option<[(ReportLine, &'static str); 4]> {
+    let (join, split, brick) = (OrderKind::Join, OrderKind::Split, NodeNo::brick(0)?);
+    let (done, there) = (OrderReply::Done, OrderReply::AlreadyThere);
+    let lock = OrderReply::Refused(Met::Lock { brick });
+    let stale = OrderReply::Refused(Met::Stale { brick });
+    Some([
+        (order(join, done), "join b1 done"),
+        (order(join, there), "join b1 alreadythere"),
+        (order(join, stale), "join b1 refused stale b0"),
+        (order(split, lock), "split b1 refused lock b0"),
+    ])
+}
+
+/// The other lines, and the text of each.
+fn others() -> Option<[(ReportLine, &'static str); 14]> {
+    let (brick, caller, call) = (NodeNo::brick(0)?, CallerNo::of(0)?, CallNo(1));
+    let (name, list) = (LeafName::of(0, 1)?, BrickList::of(&[0, 1])?);
+    let (kind, what) = (OrderKind::Join, Counted::Calls);
+    let (epoch, pairs) = (2, 20);
+    let leaf = ReportLine::BrickLeaf {
+        brick,
+        name,
+        epoch,
+        pairs,
+        list,
+    };
+    Some([
+        (ReportLine::Busy { caller, call }, "0.1 busy"),
+        (ReportLine::OpenCall { caller, call }, "open 0.1"),
+        (ReportLine::OpenOrder { kind, brick }, "open join b0"),
+        (ReportLine::Quiet { events: 8 }, "quiet 8"),
+        (ReportLine::Loud, "loud 1000000"),
+        (ReportLine::Events { events: 3 }, "events 3"),
+        (ReportLine::NoPost, "post no"),
+        (ReportLine::NoTake, "take no"),
+        (ReportLine::BrickStopped { brick }, "b0 stopped"),
+        (ReportLine::BrickUp { brick, pending: 7 }, "b0 up pending 7"),
+        (leaf, "b0 leaf 0/1 epoch 2 pairs 20 list 0,1"),
+        (ReportLine::History { entries: 4 }, "history 4"),
+        (ReportLine::Count { what, number: 12 }, "calls 12"),
+        (ReportLine::End, "end"),
+    ])
+}
+
+fn has_text(alloc: Global, line: &ReportLine, text: &str) -> bool {
+    match line_text(alloc, line) {
+        Ok(found) => found.bytes() == text.as_bytes(),
+        Err(_) => false,
     }
 }
 
+/// The first text that isn't its line's.
+fn wrong(alloc: Global, cases: &[(ReportLine, &'static str)]) -> Option<&'static str> {
+    for (line, text) in cases {
+        if !has_text(alloc, line, text) {
+            return Some(*text);
+        }
+    }
+    None
+}
+
 #[test]
-fn writes_the_answers(rt: HostRuntime) -> Result<(), Fail> {
-    let brick = NodeNo::brick(63).unwrap();
-    let name = LeafName::of(2, 3).unwrap();
-    let caller = CallerNo::of(0).unwrap();
-    let lines = [
-        answer(Reply::Value(value(rt.alloc(), b"hi")?)),
-        answer(Reply::Value(value(rt.alloc(), b"")?)),
-        answer(Reply::Absent),
-        answer(Reply::Done { was: true }),
-        answer(Reply::Done { was: false }),
-        answer(Reply::Swapped { done: true }),
-        answer(Reply::Swapped { done: false }),
-        answer(Reply::Again(Met::Lease { brick })),
-        answer(Reply::Again(Met::Stopped { brick })),
-        answer(Reply::Full { brick }),
-        answer(Reply::Lost { name }),
-        ReportLine::Busy {
-            caller,
-            call: CallNo(1),
-        },
-        ReportLine::OpenCall {
-            caller,
-            call: CallNo(0),
-        },
-    ];
-    let wanted =
-        "3.12 value 6869\n3.12 value -\n3.12 absent\n3.12 done old\n3.12 done new\n3.12 swapped yes\n\
-                  3.12 swapped no\n3.12 again lease b63\n3.12 again stopped b63\n3.12 full b63\n3.12 lost 2/3\n\
-                  0.1 busy\nopen 0.0\n";
-    assert_eq!(rt; written(rt.alloc(), &lines)?.written(), wanted.as_bytes());
+fn lines_have_these_texts(rt: HostRuntime) -> Result<(), Fail> {
+    let answers = answers(rt.alloc()).ok_or("no memory")?;
+    assert_eq!(rt; wrong(rt.alloc(), &answers), None);
+    let orders = order_answers().ok_or("no brick")?;
+    assert_eq!(rt; wrong(rt.alloc(), &orders), None);
+    let others = others().ok_or("no brick")?;
+    assert_eq!(rt; wrong(rt.alloc(), &others), None);
     Ok(())
 }
 
 #[test]
-fn writes_the_orders_and_counts(rt: HostRuntime) -> Result<(), Fail> {
-    let brick = NodeNo::brick(0).unwrap();
-    let lines = [
-        order_answer(OrderKind::Join, OrderReply::Done),
-        order_answer(OrderKind::Split, OrderReply::Refused(Met::Lock { brick })),
-        order_answer(OrderKind::Join, OrderReply::Refused(Met::Stale { brick })),
-        order_answer(OrderKind::Join, OrderReply::AlreadyThere),
-        ReportLine::OpenOrder {
-            kind: OrderKind::Join,
-            brick,
-        },
-        ReportLine::Quiet { events: 8 },
-        ReportLine::Loud,
-        ReportLine::Events { events: 3 },
-        ReportLine::NoPost,
-        ReportLine::NoTake,
-        ReportLine::BrickStopped { brick },
-        ReportLine::BrickUp { brick, pending: 7 },
-        ReportLine::BrickLeaf {
-            brick,
-            name: LeafName::of(0, 1).unwrap(),
-            epoch: 2,
-            pairs: 20,
-            list: BrickList::of(&[0, 1]).unwrap(),
-        },
-        ReportLine::History { entries: 4 },
-        ReportLine::Count {
-            what: Counted::Calls,
-            number: 12,
-        },
-        ReportLine::End,
-    ];
-    let wanted =
-        "join b1 done\nsplit b1 refused lock b0\njoin b1 refused stale b0\njoin b1 alreadythere\n\
-                  open join b0\nquiet 8\nloud 1000000\nevents 3\npost no\ntake no\nb0 stopped\nb0 up pending 7\n\
-                  b0 leaf 0/1 epoch 2 pairs 20 list 0,1\nhistory 4\ncalls 12\nend\n";
-    assert_eq!(rt; written(rt.alloc(), &lines)?.written(), wanted.as_bytes());
-    Ok(())
-}
-
-#[test]
-fn stops_at_a_failing_sink(rt: HostRuntime) -> Result<(), Fail> {
-    let mut sink = MemorySink::new(rt.alloc(), &[1], 4, 100)?;
-    let lines = [ReportLine::Loud, ReportLine::End];
-    assert_eq!(rt;
-        write_lines(rt.alloc(), &lines, &mut sink),
-        Err(WriteEnd::Failed)
-    );
-    assert_eq!(rt; sink.written(), "loud".as_bytes());
+fn writes_lines(rt: HostRuntime) -> Result<(), Fail> {
+    let mut sink = MemorySink::new(rt.alloc(), &[], 4, 12)?;
+    let lines = [ReportLine::NoPost, ReportLine::End];
+    assert_eq!(rt; write_lines(rt.alloc(), &lines, &mut sink), Ok(()));
+    assert_eq!(rt; sink.written(), b"post no\nend\n".as_slice());
     Ok(())
 }

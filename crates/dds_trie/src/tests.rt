@@ -1,36 +1,38 @@
 //! Cases whose results were worked out by hand.
 
-ghost use Rattle.std.specs.Prelude.{◌≡◌};
+ghost use Rattle.std.specs.Prelude.{◌≡◌, IfSome};
 
 use crate::trie::Trie;
 use dds_base::brick_list::BrickList;
 use dds_base::leaf::Leaf;
-use dds_base::memory::Memory;
 use dds_base::name::LeafName;
 use dds_base::number::Stamp;
+use dds_groups::halves::{high_half, low_half};
 use std::alloc::Global;
-use std::process::Abort;
 use std::test::Fail;
 
-fn leaf(rt: &impl Abort, bits: u16, depth: u8, epoch: u64) -> Leaf
-    ensures { result.name ≡ record { bits = bits; depth = depth } }
+fn leaf(name: LeafName, epoch: u64) -> Option<Leaf>
+    ensures { IfSome result (λ leaf. leaf.name ≡ name) }
 {
-    Leaf {
-        name: LeafName::of(bits, depth).expect(rt, "a name"),
+    Some(Leaf {
+        name,
         epoch,
-        stamp: Stamp::opening(epoch),
-        prev: Stamp::opening(epoch),
-        list: BrickList::of(&[0]).expect(rt, "a list"),
-    }
+        stamp: Stamp::opening(0),
+        prev: Stamp::opening(0),
+        list: BrickList::of(&[0])?,
+    })
 }
 
-/// A trie with these leaves, put in order; the epochs count them from 0.
-fn trie_with(rt: &impl Abort, alloc: Global, names: &[(u16, u8)]) -> Result<Trie, Memory> {
+/// A trie with leaves of these bits and depths, put in order; the epochs count them from 0.
+fn trie_with(alloc: Global, names: &[(u16, u8)]) -> Option<Trie> {
     let mut trie = Trie::new(alloc);
-    for (place, (bits, depth)) in names.iter().enumerate() {
-        trie.put_leaf(leaf(rt, *bits, *depth, place as u64))?;
+    let mut epoch = 0u64;
+    for (bits, depth) in names {
+        let leaf = leaf(LeafName::of(*bits, *depth)?, epoch)?;
+        trie.put_leaf(leaf).ok()?;
+        epoch = epoch.wrapping_add(1);
     }
-    Ok(trie)
+    Some(trie)
 }
 
 fn epoch_at(trie: &Trie, key: u64) -> Option<u64> {
@@ -42,8 +44,9 @@ fn epoch_at(trie: &Trie, key: u64) -> Option<u64> {
 
 #[test]
 fn the_deepest_leaf_covers_the_key(rt: HostRuntime) -> Result<(), Fail> {
-    let trie = trie_with(&rt, rt.alloc(), &[(0, 0), (1, 1), (3, 2), (32771, 16)])?;
-    for (key, want) in [
+    let names = [(0, 0), (1, 1), (3, 2), (32771, 16)];
+    let trie = trie_with(rt.alloc(), &names).ok_or("no memory")?;
+    for (key, want) in &[
         (0, 0),
         (1, 1),
         (5, 1),
@@ -53,47 +56,44 @@ fn the_deepest_leaf_covers_the_key(rt: HostRuntime) -> Result<(), Fail> {
         (98307, 3),
         (65539, 2),
     ] {
-        assert_eq!(rt; epoch_at(&trie, key), Some(want), "key {key}");
+        assert_eq!(rt; epoch_at(&trie, *key), Some(*want), "key {key}");
     }
     Ok(())
 }
 
 #[test]
 fn a_leaf_takes_away_what_lies_under_it(rt: HostRuntime) -> Result<(), Fail> {
-    let trie = trie_with(&rt, rt.alloc(), &[(1, 1), (3, 2), (7, 3), (2, 2), (3, 2)])?;
-    for (key, want) in [
+    let names = [(1, 1), (3, 2), (7, 3), (2, 2), (3, 2)];
+    let trie = trie_with(rt.alloc(), &names).ok_or("no memory")?;
+    for (key, want) in &[
         (1, Some(0)),
         (3, Some(4)),
         (7, Some(4)),
         (2, Some(3)),
         (0, None),
     ] {
-        assert_eq!(rt; epoch_at(&trie, key), want, "key {key}");
-    }
-    for (bits, depth, named, overlaps) in [
-        (7, 3, false, true),
-        (3, 2, true, true),
-        (0, 2, false, false),
-        (0, 1, false, true),
-    ] {
-        let name = LeafName::of(bits, depth).expect(&rt, "a name");
-        assert_eq!(rt; trie.named(name).is_some(), named, "{bits}/{depth}");
-        assert_eq!(rt; trie.overlapping(name), overlaps, "{bits}/{depth}");
+        assert_eq!(rt; epoch_at(&trie, *key), *want, "key {key}");
     }
     Ok(())
 }
 
+/// A trie whose leaf 1/1 was split into leaves of the epochs 8 and 9.
+fn split_trie(alloc: Global) -> Option<Trie> {
+    let mut trie = trie_with(alloc, &[(1, 1), (7, 3), (0, 1)])?;
+    let name = LeafName::of(1, 1)?;
+    if trie.named(name).is_some() {
+        let (low, high) = (leaf(low_half(name), 8)?, leaf(high_half(name), 9)?);
+        trie.split_leaf(name, low, high).ok()?;
+    }
+    Some(trie)
+}
+
 #[test]
 fn a_split_puts_both_halves(rt: HostRuntime) -> Result<(), Fail> {
-    let mut trie = trie_with(&rt, rt.alloc(), &[(1, 1), (7, 3), (0, 1)])?;
-    let (low, high) = (leaf(&rt, 1, 2, 8), leaf(&rt, 3, 2, 9));
-    let name = leaf(&rt, 1, 1, 0).name;
-    if trie.named(name).is_some() {
-        trie.split_leaf(name, low, high)?;
+    let trie = split_trie(rt.alloc()).ok_or("no memory")?;
+    for (key, want) in &[(1, 8), (3, 9), (7, 9), (2, 2)] {
+        assert_eq!(rt; epoch_at(&trie, *key), Some(*want), "key {key}");
     }
-    for (key, want) in [(1, 8), (3, 9), (7, 9), (2, 2)] {
-        assert_eq!(rt; epoch_at(&trie, key), Some(want), "key {key}");
-    }
-    assert!(rt; trie.named(name).is_none());
+    assert_eq!(rt; trie.leaves(rt.alloc())?.len(), 3);
     Ok(())
 }
