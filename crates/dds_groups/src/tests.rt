@@ -1,6 +1,6 @@
 //! Cases whose results were worked out by hand.
 
-ghost use Rattle.std.specs.Prelude.{◌≡◌, ◌×◌, [], ◌∷◌, IfSome};
+ghost use Rattle.std.specs.Prelude.{◌≡◌, [], ◌∷◌, IfSome};
 
 use crate::live::live;
 use crate::made::{children, joined};

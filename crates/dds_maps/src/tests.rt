@@ -7,7 +7,6 @@ use dds_base::name::LeafName;
 use dds_base::node_set::NodeSet;
 use dds_base::number::{NodeNo, Stamp};
 use std::alloc::Global;
-use std::test::Fail;
 
 /// The opening leaf of this name and epoch, whose stamp has the epoch's number.
 fn leaf((bits, depth): (u16, u8), epoch: u64) -> Option<Leaf> {
@@ -20,26 +19,35 @@ fn leaf((bits, depth): (u16, u8), epoch: u64) -> Option<Leaf> {
     })
 }
 
-/// How the leaf of this name and epoch stands for a key, in a map of 0/0 at epoch 1 and 1/1 at epoch 2.
-fn standing(alloc: Global, key: u64, name: (u16, u8), epoch: u64) -> Option<Standing> {
-    let leaves = [leaf((0, 0), 1)?, leaf((1, 1), 2)?];
+/// How the leaf of this name and epoch stands for a key in a map of 1/1 at epoch 1 and 3/2 at epoch 2; `Err` has the
+/// epoch of the leaf that is there.
+fn standing(
+    alloc: Global,
+    key: u64,
+    (bits, depth): (u16, u8),
+    epoch: u64,
+) -> Option<Result<(), Option<u64>>> {
+    let leaves = [leaf((1, 1), 1)?, leaf((3, 2), 2)?];
     let maps = Maps::new(alloc, &leaves).ok()?;
-    Some(maps.stands(key, LeafName::of(name.0, name.1)?, Stamp::opening(epoch)))
+    match maps.stands(key, LeafName::of(bits, depth)?, Stamp::opening(epoch)) {
+        Standing::Same => Some(Ok(())),
+        Standing::Other(leaf) => Some(Err(Some(leaf.epoch))),
+        Standing::NotHere => Some(Err(None)),
+    }
 }
 
 #[test]
-fn a_map_stands_by_its_deepest_leaf(rt: HostRuntime) -> Result<(), Fail> {
-    let half = leaf((1, 1), 2).ok_or("no leaf")?;
-    for (key, name, epoch, want) in [
-        (4, (0, 0), 1, Standing::Same),
-        (5, (1, 1), 2, Standing::Same),
-        (5, (0, 0), 1, Standing::Other(half)),
-        (5, (1, 1), 1, Standing::Other(half)),
+fn a_map_stands_by_its_deepest_leaf(rt: HostRuntime) {
+    for (key, name, epoch, want) in &[
+        (1, (1, 1), 1, Ok(())),
+        (3, (3, 2), 2, Ok(())),
+        (3, (1, 1), 1, Err(Some(2))),
+        (3, (3, 2), 1, Err(Some(2))),
+        (2, (1, 1), 1, Err(None)),
     ] {
-        let found = standing(rt.alloc(), key, name, epoch);
-        assert_eq!(rt; found, Some(want), "key {key} at epoch {epoch}");
+        let found = standing(rt.alloc(), *key, *name, *epoch);
+        assert_eq!(rt; found, Some(*want), "key {key} at epoch {epoch}");
     }
-    Ok(())
 }
 
 /// Judges a brick's leaf of this epoch by a library's.
