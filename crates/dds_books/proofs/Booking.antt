@@ -74,7 +74,7 @@ heard-lists : (b : Book) (z : Sizes) (at : ℕ) (s : LibraryState) (from : NodeN
 heard-lists b z at s from letter.Notice h k = listing-first b z at s (heard s from letter.Notice) h k refl refl refl
 heard-lists b z at s from other h k = listing-first b z at s s h k refl refl refl
 
-took-lists : (z : Sizes) (n : Net) (b : Book) (at : ℕ) (from : NodeNo) (l : Letter) (s : LibraryState) → ArePlaced z n → AreListed n b → n.node at ≡ a_library s
+pub took-lists : (z : Sizes) (n : Net) (b : Book) (at : ℕ) (from : NodeNo) (l : Letter) (s : LibraryState) → ArePlaced z n → AreListed n b → n.node at ≡ a_library s
     → LetterOk (Made n) z from at l → Listing b s (live_library_turn s from l).state (live_library_turn s from l).out
 took-lists z n b at from l s p g here first =
     let h = own-placed z n at s p here in
@@ -193,22 +193,18 @@ new-listed o k x (no_node e) = subst (NodeListed (λ t. None) k) (sym e) tt
 new-listed o k x (new_a_brick e) = subst (NodeListed (λ t. None) k) (sym e) tt
 new-listed o k x (new_a_library high e) = subst (NodeListed (λ t. None) k) (sym e) (record { calls = tt; to_come = λ t home high. refl })
 
+pub start-listed : (o : OpeningOf) → AreListed (net (sizes_of o) (start o).world) (λ t. None)
+start-listed o =
+    record {
+      nodes = λ k. new-listed o k _ (start-node o k);
+      letters = λ a b. subst (AllByRecursion (LetterListed (λ t. None) a b)) (sym (start-channel o a b)) tt;
+    }
+
 pub attempts-are-listed : AttemptsAreListed
 attempts-are-listed o journal h run =
     let z = sizes_of o in
-    let n = net z (start o).world in
     let ran = run-keeps z (Unit {0} × Book) _ _ journal (start o) h.ranges.bricks
     (kept-over z (Unit {0}) (λ h n e b. tt) (λ h n b. ArePlaced z n) Book (λ h n e a b. booked e b) (λ h n a b. AreListed n b)
     (placed-kept z h.ranges.bricks h.ranges.libraries) (listed-kept z))
-    (record {
-      sized = sized-start o;
-      books = (tt, λ t. None);
-      is = (
-        start-placed o h,
-        record {
-          nodes = λ k. new-listed o k _ (start-node o k);
-          letters = λ a b. subst (AllByRecursion (LetterListed (λ t. None) a b)) (sym (start-channel o a b)) tt;
-        },
-      );
-    }) run in
+    (record { sized = sized-start o; books = (tt, λ t. None); is = (start-placed o h, start-listed o) }) run in
     (ran.books.1, ran.is.1)

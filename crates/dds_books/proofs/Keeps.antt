@@ -34,7 +34,7 @@ use Rattle.dds_net.proofs.Opening.{IsNew, new_a_brick, new_a_library, no_node, s
 use Rattle.dds_net.proofs.Puts.{at-put}
 use Rattle.dds_net.proofs.Runs.{IsKept, run-keeps}
 use Rattle.dds_net.specs.Event.{nothing, unheard, unasked, brick_takes, brick_told, brick_stops, library_takes, library_asked, library_stops, History}
-use Rattle.dds_net.specs.Event.{asked_turn}
+use Rattle.dds_net.specs.Event.{asked_turn, history_of}
 use Rattle.dds_net.specs.Net.{Net, Node, nowhere, a_brick, a_library, Sizes, net, put, sizes_of}
 use Rattle.dds_books.specs.Calls.{AreBooked, CallsAreBooked, CallsOk, IsNoPrepare, IsOwned, LibraryIs, PrepareOk, SentOk}
 use Rattle.dds_books.proofs.CallGoes.{LetterGoes}
@@ -275,16 +275,16 @@ new-calls o n x (no_node e) = subst (LibraryIs (CallsOk (start o).callers n)) (s
 new-calls o n x (new_a_brick e) = subst (LibraryIs (CallsOk (start o).callers n)) (sym e) tt
 new-calls o n x (new_a_library high e) = subst (LibraryIs (CallsOk (start o).callers n)) (sym e) (record { below = tt; owned = tt; apart = tt })
 
+pub start-booked : (o : OpeningOf) → AreBooked (history_of (start o)) (net (sizes_of o) (start o).world)
+start-booked o =
+    let n = net (sizes_of o) (start o).world in
+    record {
+      calls = λ k. new-calls o k (n.node k) (start-node o k);
+      letters = λ a b. subst (AllByRecursion (SentOk a (n.node a))) (sym (start-channel o a b)) tt;
+    }
+
 pub calls-are-booked : CallsAreBooked
 calls-are-booked o journal ranges run =
     let z = sizes_of o in
     (run-keeps z (Unit {0}) (λ h n e b. tt) (λ h n b. AreBooked h n) journal (start o) ranges.bricks (calls-kept z)
-    (record {
-      sized = sized-start o;
-      books = tt;
-      is = record {
-        calls = λ k. new-calls o k _ (start-node o k);
-        letters =
-            λ a b. subst (AllByRecursion (SentOk a ((net z (start o).world).node a))) (sym (start-channel o a b)) tt;
-      };
-    }) run).is
+    (record { sized = sized-start o; books = tt; is = start-booked o }) run).is

@@ -129,6 +129,7 @@ stopped-told z y apart =
       awaited = λ r s sent mine e h. record {
         grows = h.grows;
         why = h.why;
+        all_ready = h.all_ready;
         each = λ m i. subst (λ v. Resolves z.before v (z.to m ++ about tell_in z.txn (letters_to m sent)) (z.put_off m) (z.ready m) (z.at m) (z.back m))
             (unwaited-same r y m (apart m i)) (h.each m i);
         mates = h.mates;

@@ -117,6 +117,17 @@ blind-outcome g known t f m from u hers listed live apart = pick (one-before (g.
     pick (inl h) = unready-first known t (g.list t) f from h u
     pick (inr h) = absurd (not-both (g.stopped f) (all-has g.stopped (rows.before (g.list t) from) f hers.first h) live)
 
+-- a resolver that is ready knows an earlier one
+pub knows-earlier : (g : Ground) (known : NodeSet) (t : Txn) (f m n : ℕ) → Team g t (g.list t) f m → has (g.list t) n ≡ true → g.stopped n ≡ false →
+    (f == n) ≡ false → rows.is_ready known t (g.list t) n ≡ true → has_node known f ≡ true
+knows-earlier g known t f m n hers listed live apart ready = pick (one-before (g.list t) f n hers.resolver listed apart)
+  where
+    pick : (has (rows.before (g.list t) n) f ≡ true) ⊎ (has (rows.before (g.list t) f) n ≡ true) → has_node known f ≡ true
+    pick (inl h) =
+        let j = and_parts (has_node known t.library) (list_all (λ k. has_node known k) (rows.before (g.list t) n)) ready in
+        listed-has (λ k. has_node known k) (rows.before (g.list t) n) f j.1 h
+    pick (inr h) = absurd (not-both (g.stopped n) (all-has g.stopped (rows.before (g.list t) f) n hers.first h) live)
+
 -- who asks or tells is a resolver of the attempt's own list
 pub own-team : {g : Ground} {x : Txn} {list : List ℕ} {f m : ℕ} (t : Txn) → same_txn x t ≡ true → Team g x list f m → Team g t (g.list t) f m
 own-team {g = g} {x = x} {list = list} {f = f} {m = m} t e h =
@@ -131,6 +142,12 @@ blind-here g known t f n m from (letter.Abort txn) u own ok team live = λ e. bl
 blind-here g known t f n m from (letter.Outcome txn c) u own ok team live = λ e apart.
     blind-outcome g known t f n from u (own-team t e ok.team) team.resolver live apart
 blind-here g known t f n m from other u own ok team live = tt
+
+-- it forgets nobody
+pub knows-still : (s : BrickState) (from : ℕ) (g : Ground) (l : Letter) (k : ℕ) → NoticeOk g from l → has_node s.known k ≡ true →
+    has_node (live_brick_turn s from l).state.known k ≡ true
+knows-still s from g letter.Notice k h e = ap (λ (w : Who). has_node w.known k) (letter-tells s from letter.Notice).same ∙ learns-more s from h.0 k e
+knows-still s from g other k h e = ap (λ (w : Who). has_node w.known k) (letter-tells s from other).same ∙ e
 
 -- what it knows after the turn
 pub knows-more : (s : BrickState) (from : ℕ) (g : Ground) (l : Letter) (k : ℕ) → NoticeOk g from l →

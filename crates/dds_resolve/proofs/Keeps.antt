@@ -1,43 +1,34 @@
-use Rattle.std.proofs.Common.{◌≡◌, ℕ, ◌≤◌, ◌==◌, ◌||◌, ◌⊎◌, inl, inr, Bool, true, false, List, [], ◌++◌, find}
-use Rattle.std.proofs.Common.{refl, sym, ap, ◌∙◌, subst}
+use Rattle.std.proofs.Common.{◌≡◌, ℕ, ◌==◌, ◌||◌, ◌⊎◌, inl, inr, Bool, true, false, List, [], ◌++◌, find, refl, sym, ap, ◌∙◌, subst}
 use Rattle.std.proofs.lemmas.Bool.{eqb-true, eqb-false}
 use Rattle.std.specs.FinMap.{get}
-use Rattle.std.specs.List.{AllByRecursion}
 use Rattle.dds_base.specs.BrickList.{has}
 use Rattle.dds_base.specs.NodeSet.{has_node}
 use Rattle.dds_base.specs.Number.{Txn}
 use Rattle.dds_base.specs.declared.pending.TxnStatus.{TxnStatus}
 use Rattle.dds_brick_rows.specs.Resolution.{is_of, is_ready}
-use Rattle.dds_core.proofs.LetterTells.{letter-tells}
-use Rattle.dds_core.proofs.Tells.{Who}
 use Rattle.dds_core.specs.Brick.{live_brick_turn}
-use Rattle.dds_law_notice.proofs.Keeps.{AreLinked}
 use Rattle.dds_letters.specs.declared.letter.Letter.{Letter}
 use Rattle.dds_letters.specs.declared.letter.Letter.TheVariants as letter
-use Rattle.dds_net.proofs.Runs.{IsBuilt}
-use Rattle.dds_net.specs.Event.{Takes, brick_takes, moved}
 use Rattle.dds_net.specs.Net.{Net, a_brick, Sizes}
 use Rattle.dds_states.specs.declared.brick_state.BrickState.{BrickState}
 use Rattle.dds_talk.specs.Books.{Books, is_yes}
 use Rattle.dds_talk.specs.Resolve.{Resolves}
 use Rattle.dds_talk.specs.Seen.{about, is_pending}
-use Rattle.dds_resolve.proofs.Here.{blind-here, knows-more, unknown-sender}
+use Rattle.dds_resolve.proofs.Here.{blind-here, knows-more}
 use Rattle.dds_resolve.proofs.MemberLetters.{member-letter}
 use Rattle.dds_resolve.proofs.OneResolver.{NoTeam, no-resolving, one-resolver, others-of, rests-alive, rests-lost, team-or}
-use Rattle.dds_resolve.proofs.Ready.{Readies}
+use Rattle.dds_resolve.proofs.LeftTurns.{left-after}
 use Rattle.dds_resolve.proofs.ResolverLetters.{resolver-letter}
 use Rattle.dds_resolve.proofs.ResolverSteps.{Going, brick-same, decided-is}
 use Rattle.dds_resolve.proofs.Seats.{seats, seats-there}
-use Rattle.dds_resolve.proofs.Grounds.{ends, begins}
-use Rattle.dds_resolve.proofs.TeamKeeps.{notice-ok, turn-good}
+use Rattle.dds_resolve.proofs.Grounds.{ends}
 use Rattle.dds_resolve.proofs.TeamTurns.{team-to, not-both}
-use Rattle.dds_resolve.proofs.Turned.{brick-turned}
 use Rattle.dds_resolve.specs.Conversations.{SeenOk}
 use Rattle.dds_resolve.specs.Resolved.{Alive, Lost, Member, Pair, Resolve}
 use Rattle.dds_resolve.specs.Resolving.{own_at, side, status_in, tell_in}
 use Rattle.dds_resolve.specs.Team.{LetterOk, Team}
-use Rattle.dds_resolve.specs.Teams.{BrickIs, NodeOk, OpensOf, Teams, ground, is_stopped}
-use Rattle.dds_resolve.proofs.Beside.{Beside, swap, letters-after, Case, now_decided}
+use Rattle.dds_resolve.specs.Teams.{BrickIs, ground, is_stopped}
+use Rattle.dds_resolve.proofs.Beside.{swap, Case, now_decided}
 
 -- A brick's turn keeps the conversations of all live resolvers.
 
@@ -275,6 +266,8 @@ module _ {z : Sizes} {w v : Net} {b : Books} {n from : ℕ} {s : BrickState} {l 
       record {
         alive = λ t f m x y p live. alive-if t f m x y p live (f == n) refl (team-or (ground z w b.list) t n) (team-or (ground z w b.list) t f);
         lost = λ t f m x y p stops. lost-if t f m x y p stops (f == n) refl (team-or (ground z w b.list) t n) (team-or (ground z w b.list) t f);
+        left = λ t f m x y p. left-after c t f m x y (not-here f x p.resolver p.stops) (λ none. same-decided t none) (λ team. turn-goes t team)
+            (λ team. goes-decided t (turn-goes t team)) p;
         seen = λ t f x e live. seen-if t f x e live (f == n) refl (team-or (ground z w b.list) t n) (team-or (ground z w b.list) t f);
       }
     where
@@ -313,33 +306,3 @@ module _ {z : Sizes} {w v : Net} {b : Books} {n from : ℕ} {s : BrickState} {l 
       seen-if t f x e live false i (inl team) (inl hers) = absurd (clash t f x i e live team hers)
       seen-if t f x e live false i (inr none) (inl hers) =
           subst (λ d. SeenOk d (b.list t) (own_at x t) (find (is_of t) x.resolving)) (same-decided t none) (c.resolve.seen t f x (f-was f x i e) live)
-
--- the event
-turn-lives : (s : BrickState) (from : ℕ) (l : Letter) → s.stopped ≡ false → (live_brick_turn s from l).state.stopped ≡ false
-turn-lives s from letter.Notice e = ap (λ (w : Who). w.stopped) (letter-tells s from letter.Notice).same ∙ e
-turn-lives s from other e = ap (λ (w : Who). w.stopped) (letter-tells s from other).same ∙ e
-
-pub resolve-takes : (z : Sizes) → z.bricks ≤ 64 → z.libraries ≤ 16 → (w : Net) (n from : ℕ) (l : Letter) (s : BrickState) (b : Books) → IsBuilt z w →
-    Takes z w n from l (a_brick s) → AreLinked z w → Teams z w b.list
-    → OpensOf (ground z w b.list) (brick_takes n from l s) → Readies s.known n s → Beside z w b n from s l → Resolve w b.list b.decided
-    → Resolve (moved z w (brick_takes n from l s)) b.list (now_decided b (live_brick_turn s from l))
-resolve-takes z few some w n from l s b built f links t opens readies beside resolve =
-    let g = ground z w b.list in
-    let r = live_brick_turn s from l in
-    let good = turn-good z w b.list n from l s few some f.here f.letter links opens t in
-    let bricks = (λ (m : ℕ) (y : BrickState) (e : w.node m ≡ a_brick y). subst (NodeOk g m) e (t.nodes m)) in
-    let first = subst (AllByRecursion (LetterOk g from n)) f.letter.first (t.letters from n) in
-    resolve-after {z = z} {w = w} {v = moved z w (brick_takes n from l s)} {b = b} {n = n} {from = from} {s = s} {l = l} {rest = f.letter.others} (record {
-      step = brick-turned z w b.list n from s l few built f.here f.live f.letter good.letters;
-      ok = begins s (bricks n s f.here) opens.0;
-      good = good;
-      bricks = bricks;
-      letters = letters-after z w b.list n from (a_brick r.state) r.out.letters few good.letters t;
-      letter_ok = first.0;
-      notice = notice-ok z w b.list n from l few some f.letter links;
-      unknown = unknown-sender z w n from l s links f.letter f.here;
-      readies = readies;
-      stays = turn-lives s from l f.live;
-      beside = beside;
-      resolve = resolve;
-    })

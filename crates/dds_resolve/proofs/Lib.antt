@@ -25,11 +25,14 @@ pub mod MemberLetters
 pub mod ResolverLetters
 pub mod Here
 pub mod Beside
+pub mod Deciders
+pub mod LeftTurns
 pub mod Keeps
+pub mod BrickEvents
 pub mod LibraryEvents
+pub mod Outcomes
 pub mod StopEvents
 pub mod OrderEvents
 pub mod Whole
 pub mod Kept
 pub mod Idle
-pub mod Outcomes

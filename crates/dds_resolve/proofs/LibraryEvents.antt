@@ -13,9 +13,9 @@ use Rattle.dds_states.specs.declared.brick_state.Resolving.{Resolving}
 use Rattle.dds_states.specs.declared.library_state.LibraryState.{LibraryState}
 use Rattle.dds_talk.specs.Resolve.{Resolves, Side}
 use Rattle.dds_talk.specs.Seen.{about, one}
-use Rattle.dds_resolve.proofs.OneResolver.{NoTeam, no-resolving, rests-alive, rests-lost}
+use Rattle.dds_resolve.proofs.OneResolver.{NoTeam, no-resolving, rests-alive, rests-left, rests-lost}
 use Rattle.dds_resolve.specs.Conversations.{SeenOk}
-use Rattle.dds_resolve.specs.Resolved.{Alive, Lost, Pair, Resolve}
+use Rattle.dds_resolve.specs.Resolved.{Alive, LeftOver, LeftPair, Lost, Pair, Resolve, ToldOk}
 use Rattle.dds_resolve.specs.Resolving.{own_at, side, side_of, status_in, tell_in, waits}
 use Rattle.dds_resolve.specs.Team.{Ground, LetterOk}
 use Rattle.dds_resolve.specs.Teams.{BrickIs, NodeOk, Teams, ground}
@@ -78,6 +78,14 @@ lost-same {w = w} {v = v} {d = d} {t = t} {f = f} {m = m} {x = x} {u = u} e j h 
     side_in : List Resolving → Side
     side_in rs = side_of (find (is_of t) rs) m
 
+pub left-same : {w v : Net} {d : Bool} {t : Txn} {list : List ℕ} {f m : ℕ} {y q : BrickState} →
+    about tell_in t (v.channel f m) ≡ about tell_in t (w.channel f m) → q.known ≡ y.known → LeftOver w d t list f m y → LeftOver v d t list f m q
+left-same {w = w} {d = d} {t = t} {list = list} {f = f} {m = m} {q = q} e i h =
+    record {
+      told = subst (AllByRecursion (ToldOk d (is_ready q.known t list f))) (sym e)
+          (subst (λ k. AllByRecursion (ToldOk d (is_ready k t list f)) (about tell_in t (w.channel f m))) (sym i) h.told);
+    }
+
 -- A library's turn, or its stop: bricks and what is between them stay
 pub record Library (w v : Net) (at : ℕ) : Type 0 where
   pub old : LibraryState
@@ -104,6 +112,7 @@ library-resolve {w = w} {v = v} {at = at} z list more d e c teams unmoved h =
     record {
       alive = λ t f m x y p live. alive-if t f m x y p live (unmoved t);
       lost = λ t f m x y p stops. lost-if t f m x y p stops (unmoved t);
+      left = λ t f m x y p. left-if t f m x y p (unmoved t);
       seen = λ t f x i live. seen-if t f x i live (unmoved t);
     }
   where
@@ -144,6 +153,21 @@ library-resolve {w = w} {v = v} {at = at} z list more d e c teams unmoved h =
     lost-if t f m x y p stops (inl k) = subst (λ b. Lost v b t f m x) (sym k.1)
         (lost-same (ap (about status_in t) (same m f y x p.member p.resolver)) refl (h.lost t f m x y (pair t f m x y k.0 p) stops))
     lost-if t f m x y p stops (inr none) = rests-lost v (ground z w list) (e t) t f m x (none f) (brick f x p.resolver) (between m f y x p.member p.resolver)
+
+    left-if : (t : Txn) (f m : ℕ) (x y : BrickState) → LeftPair v more t f m x y → Unmoved (ground z w list) list more d e t →
+        LeftOver v (e t) t (more t) f m y
+    left-if t f m x y p (inl k) =
+        subst (λ l. LeftOver v (e t) t l f m y) (sym k.0) (subst (λ b. LeftOver v b t (list t) f m y) (sym k.1)
+        (left-same {y = y} {q = y} (ap (about tell_in t) (same f m x y p.resolver p.member)) refl (h.left t f m x y (record {
+          resolver = was f x p.resolver;
+          stops = p.stops;
+          member = was m y p.member;
+          lives = p.lives;
+          apart = p.apart;
+          in_list = ap (λ l. has l m) (sym k.0) ∙ p.in_list;
+          unknown = p.unknown;
+        }))))
+    left-if t f m x y p (inr none) = rests-left v (ground z w list) (e t) t (more t) f m y (none f) (between f m x y p.resolver p.member)
 
     seen-if : (t : Txn) (f : ℕ) (x : BrickState) → v.node f ≡ a_brick x → x.stopped ≡ false → Unmoved (ground z w list) list more d e t →
         SeenOk (e t) (more t) (own_at x t) (find (is_of t) x.resolving)

@@ -22,7 +22,8 @@ use Rattle.dds_resolve.specs.Resolving.{is_asking, own_at, status_in, tell_in, w
 use Rattle.dds_net.specs.Net.{Net}
 use Rattle.dds_talk.specs.Resolve.{Agreed}
 use Rattle.dds_talk.specs.Table.At.{N, C}
-use Rattle.dds_resolve.specs.Resolved.{Alive, Lost}
+use Rattle.dds_brick_rows.specs.Resolution.{is_ready}
+use Rattle.dds_resolve.specs.Resolved.{Alive, LeftOver, Lost, ToldOk}
 use Rattle.dds_resolve.specs.Team.{Ground, Team, LetterOk, AskedOk, DeferredOk, ResolvingOk}
 use Rattle.dds_resolve.specs.Teams.{BrickIs}
 use Rattle.dds_resolve.proofs.MemberTurns.{Others}
@@ -135,6 +136,12 @@ rests-lost w g d t f m x idle ok back =
     let statuses = nothing status_in t (w.channel m f) (LetterOk g m f) (λ l h. no-status g t f m l idle h) back in
     let none = no-resolving g t f x.resolving idle ok.resolving in
     record { out = []; put = false; ready = true; at = calm d; cut = []; agreed = calm-agreed d; now = rw (statuses, none) rest }
+
+pub rests-left : (w : Net) (g : Ground) (d : Bool) (t : Txn) (list : List ℕ) (f m : ℕ) (y : BrickState) → NoTeam g t f →
+    AllByRecursion (LetterOk g f m) (w.channel f m) → LeftOver w d t list f m y
+rests-left w g d t list f m y idle out =
+    let tells = nothing tell_in t (w.channel f m) (LetterOk g f m) (λ l h. no-tell g t f m l idle h) out in
+    record { told = subst (AllByRecursion (ToldOk d (is_ready y.known t list f))) (sym tells) tt }
 
 -- whether a brick can be an attempt's resolver is decided
 all-or : (p : ℕ → Bool) (xs : List ℕ) → AllByRecursion (λ n. p n ≡ true) xs ⊎ (AllByRecursion (λ n. p n ≡ true) xs → ⊥)

@@ -23,9 +23,9 @@ use Rattle.dds_talk.specs.Seen.{about, is_pending, of}
 use Rattle.dds_resolve.proofs.MemberTurns.{own-same}
 use Rattle.dds_resolve.proofs.ResolverSteps.{brick-same}
 use Rattle.dds_resolve.specs.Conversations.{SeenOk}
-use Rattle.dds_resolve.specs.Resolved.{Alive, Lost, Pair, Resolve}
+use Rattle.dds_resolve.specs.Resolved.{Alive, LeftOver, LeftPair, Lost, Pair, Resolve}
 use Rattle.dds_resolve.specs.Resolving.{own_at, status_in, tell_in}
-use Rattle.dds_resolve.proofs.LibraryEvents.{node-at, node-other, channel-other, channel-from, channel-to, alive-same, lost-same}
+use Rattle.dds_resolve.proofs.LibraryEvents.{node-at, node-other, channel-other, channel-from, channel-to, alive-same, left-same, lost-same}
 
 -- An order keeps the conversations of all live resolvers.
 
@@ -98,6 +98,19 @@ module _ (z : Sizes) (w : Net) (n : ℕ) (s : BrickState) (o : Order) (list : Tx
         unknown = sym (ap (λ (q : Whole). has_node q.who.known m) a.same) ∙ p.unknown;
       }
 
+  order-left : (t : Txn) (f m : ℕ) (x y : BrickState) (a : Was w f x) (b : Was w m y) → LeftPair (changed w doing) list t f m x y →
+      LeftPair w list t f m a.state b.state
+  order-left t f m x y a b p =
+      record {
+        resolver = a.is;
+        stops = sym (ap (λ (q : Whole). q.who.stopped) a.same) ∙ p.stops;
+        member = b.is;
+        lives = sym (ap (λ (q : Whole). q.who.stopped) b.same) ∙ p.lives;
+        apart = p.apart;
+        in_list = p.in_list;
+        unknown = sym (ap (λ (q : Whole). has_node q.who.known f) b.same) ∙ p.unknown;
+      }
+
   own-was : (t : Txn) (x : BrickState) (a : BrickState) → whole x ≡ whole a → own_at x t ≡ own_at a t
   own-was t x a e = own-same a x t (ap (λ (q : Whole). is_pending q.pending t) e) (ap (λ (q : Whole). get q.outcomes t) e)
 
@@ -116,6 +129,11 @@ module _ (z : Sizes) (w : Net) (n : ℕ) (s : BrickState) (o : Order) (list : Tx
             let b = order-was m y p.member in
             lost-same (order-channel status_in t m f (no-status t)) (ap (λ (q : Whole). q.resolving) a.same)
             (h.lost t f m a.state b.state (order-pair t f m x y a b p) (sym (ap (λ (q : Whole). q.who.stopped) b.same) ∙ stops));
+        left = λ t f m x y p.
+            let a = order-was f x p.resolver in
+            let b = order-was m y p.member in
+            left-same (order-channel tell_in t f m (no-tell t)) (ap (λ (q : Whole). q.who.known) b.same)
+            (h.left t f m a.state b.state (order-left t f m x y a b p));
         seen = λ t f x e lives.
             let a = order-was f x e in
             subst (λ rs. SeenOk (d t) (list t) (own_at x t) (find (is_of t) rs)) (sym (ap (λ (q : Whole). q.resolving) a.same))
@@ -139,5 +157,6 @@ module _ (z : Sizes) (w : Net) (n : ℕ) (s : BrickState) (o : Order) (list : Tx
       record {
         alive = λ t f m x y p lives. subst (λ c. Alive (changed w doing) c t (list t) f m x y) (same-after t) (k.alive t f m x y p lives);
         lost = λ t f m x y p stops. subst (λ c. Lost (changed w doing) c t f m x) (same-after t) (k.lost t f m x y p stops);
+        left = λ t f m x y p. subst (λ c. LeftOver (changed w doing) c t (list t) f m y) (same-after t) (k.left t f m x y p);
         seen = λ t f x e lives. subst (λ c. SeenOk c (list t) (own_at x t) (find (is_of t) x.resolving)) (same-after t) (k.seen t f x e lives);
       }

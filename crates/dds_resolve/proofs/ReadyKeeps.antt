@@ -94,7 +94,7 @@ ready-kept z few some h n (library_asked at caller call o s) b u f g = at-put Re
 ready-kept z few some h n (library_stops at s left) b u f g = at-put ReadyAt at (a_library _) n.node tt (λ k ne. g k)
 
 -- the opening, and all runs
-new-ready : (o : OpeningOf) (n : ℕ) (x : Node) → IsNew o n x → ReadyAt n x
+pub new-ready : (o : OpeningOf) (n : ℕ) (x : Node) → IsNew o n x → ReadyAt n x
 new-ready o n x (no_node e) = subst (ReadyAt n) (sym e) tt
 new-ready o n x (new_a_brick e) = subst (ReadyAt n) (sym e) (record { knows = refl; number = refl; ready = tt; once = tt })
 new-ready o n x (new_a_library high e) = subst (ReadyAt n) (sym e) tt

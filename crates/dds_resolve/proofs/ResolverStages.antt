@@ -57,6 +57,7 @@ talking-same {d = d} z x y s u sent e own number known h =
     record {
       grows = h.grows;
       why = subst (λ k. d ≡ true → (z.before ≡ true) ⊎ (k ≡ C)) (sym own) h.why;
+      all_ready = h.all_ready;
       each = λ m i. subst (λ k. Resolves d (side_of k m) (z.to m ++ about tell_in z.txn (letters_to m sent)) (z.put_off m) (z.ready m) (z.at m) (z.back m)) e
           (h.each m i);
       mates = h.mates;
@@ -165,6 +166,7 @@ resolve-stage {d = d} z s x list sent ok once xt same none h =
     let asked : Talking z d (Some r) s (sent ++ ls) = record {
       grows = h.grows;
       why = h.why;
+      all_ready = h.all_ready;
       each = λ m i. subst (λ v. Resolves d v (z.to m ++ about tell_in z.txn (letters_to m (sent ++ ls))) (z.put_off m) (z.ready m) (z.at m) (z.back m))
           (sym (waits-for r m (mine m i))) (begin-one (z.to m) (about tell_in z.txn (letters_to m (sent ++ ls))) (about tell_in z.txn (letters_to m sent))
           (about tell_in z.txn (letters_to m ls)) (about-sent tell_in z.txn m sent ls) (told m i) (h.each m i));
@@ -232,6 +234,7 @@ status-heard {d = d} z r s from st sent h w agreed =
     record {
       grows = h.grows;
       why = h.why;
+      all_ready = h.all_ready;
       each = λ m i. subst (λ c. Resolves d (if c then Wait else Heard (r.saw_commit || rows.is_commit st) (r.saw_no || rows.is_no st))
           (z.to m ++ about tell_in z.txn (letters_to m sent)) (z.put_off m) (z.ready m) (z.at m) (z.back m)) (sym (has-without r.waiting from m))
           (hear-if z r st from m (m == from) (has r.waiting m) refl refl w (h.each m i));

@@ -63,6 +63,7 @@ starts w v d t list n s u known q own seen number knows =
     record {
       grows = λ e. e;
       why = λ e. inl e;
+      all_ready = λ e. inl e;
       each = λ m i. seat-now (about status_in t (v.channel m n)) (q m) (and_parts (is_seated (q m)) (has (unknown_others list n known) m) i).0;
       mates = λ m i. seat-agreed (about status_in t (v.channel m n)) (q m) (and_parts (is_seated (q m)) (has (unknown_others list n known) m) i).0;
       own = own;
@@ -78,6 +79,7 @@ rebased {d = d} z a b x s sent e h =
     record {
       grows = h.grows;
       why = h.why;
+      all_ready = h.all_ready;
       each = λ m i. subst (λ bs. Resolves d (side_of x m) (z.to m ++ about tell_in z.txn (letters_to m sent)) (z.put_off m) (z.ready m) (z.at m) bs) (e m i)
           (h.each m i);
       mates = h.mates;
@@ -141,6 +143,8 @@ pub record Going (w v : Net) (list : Txn → List ℕ) (t : Txn) (n : ℕ) (s : 
   pub decided : Bool
   pub grows : d ≡ true → decided ≡ true
   pub why : decided ≡ true → (d ≡ true) ⊎ (own_at r.state t ≡ C)
+  pub all_ready : decided ≡ true → (d ≡ true)
+      ⊎ ((m : ℕ) (y : BrickState) → Pair w list t n m s y → has_node r.state.known m ≡ false → y.stopped ≡ false → is_ready y.known t (list t) n ≡ true)
   pub alive : (m : ℕ) (y : BrickState) → Pair w list t n m s y → has_node r.state.known m ≡ false → y.stopped ≡ false → Alive v decided t (list t) n m r.state y
   pub lost : (m : ℕ) (y : BrickState) → Pair w list t n m s y → has_node r.state.known m ≡ false → y.stopped ≡ true → Lost v decided t n m r.state
   pub mates : (m : ℕ) (y : BrickState) → Pair w list t n m s y → has_node r.state.known m ≡ false → y.stopped ≡ false → Agreed decided (own_at y t)
@@ -153,6 +157,19 @@ mate-agreed b e y absent is lives there h = cc
 mate-agreed b e y (lost u i k c) is lives there h = let uy : u ≡ y = brick-same u y (sym i ∙ is) in
     absurd (not-both y.stopped (ap (λ (b : BrickState). b.stopped) (sym uy) ∙ k) lives)
 mate-agreed {t = t} b e y (living u i k a c) is lives there h = let uy : u ≡ y = brick-same u y (sym i ∙ is) in subst (λ x. Agreed e (own_at x t)) uy h
+
+mate-ready : {w : Net} {d : Bool} {t : Txn} {list : List ℕ} {n m : ℕ} {s : BrickState} (b : List At) (y : BrickState)
+    (q : Seated w d t list n m s) → w.node m ≡ a_brick y → y.stopped ≡ false → is_seated q ≡ true → (seat_of b q).ready ≡ true
+    → is_ready y.known t list n ≡ true
+mate-ready b y absent is lives there h = cc
+mate-ready b y (lost u i k c) is lives there h = let uy : u ≡ y = brick-same u y (sym i ∙ is) in
+    absurd (not-both y.stopped (ap (λ (b : BrickState). b.stopped) (sym uy) ∙ k) lives)
+mate-ready {t = t} {list = list} {n = n} b y (living u i k a c) is lives there h =
+    let uy : u ≡ y = brick-same u y (sym i ∙ is) in subst (λ (x : BrickState). is_ready x.known t list n ≡ true) uy h
+
+or-right : {A B C : Type 0} → (B → C) → A ⊎ B → A ⊎ C
+or-right f (inl a) = inl a
+or-right f (inr b) = inr (f b)
 
 pub going : (w v : Net) (list : Txn → List ℕ) (d : Bool) (t : Txn) (n from : ℕ) (s : BrickState) (l : Letter) (rest : List Letter) (r : BrickTurn)
     (known : NodeSet) (q : Seating w d t (list t) n s)
@@ -167,6 +184,8 @@ going w v list d t n from s l rest r known q there knows step e h =
       decided = e;
       grows = h.grows;
       why = h.why;
+      all_ready = λ i. or-right (λ f m y p u lives. mate-ready (about status_in t (v.channel m n)) y (q m) p.member lives (there m y p) (f m (sits m y p u)))
+          (h.all_ready i);
       alive = λ m y p u lives. alive-after w v d t (list t) n from m s y l rest r e (q m) step (swap n m p.apart) p.member lives (there m y p)
           (h.each m (sits m y p u));
       lost = λ m y p u stops. lost-after w v d t (list t) n m s y r e (q m) p.member stops (there m y p) (h.mates m (sits m y p u)) (h.each m (sits m y p u));

@@ -66,6 +66,10 @@ own-agreed false false d A f g h = cc
 saw-of : {d q r c n : Bool} {o : List Tell} {a : At} {b : List At} → Resolves d (Heard c n) o q r a b → Saw c n a
 saw-of (heard h) = h
 
+-- who was heard is ready
+ready-of : {d q r c n : Bool} {o : List Tell} {a : At} {b : List At} → Resolves d (Heard c n) o q r a b → r ≡ true
+ready-of (heard h) = refl
+
 commit-stays : (c n d : Bool) → d ≡ true → (n ≡ true → d ≡ false) → verdict_of c n ≡ true
 commit-stays true n d e g = refl
 commit-stays false true d e g = let q = sym e ∙ g refl in cc
@@ -90,6 +94,7 @@ talking-aside {d = d} z x s r sent a h =
     record {
       grows = h.grows;
       why = subst (λ k. d ≡ true → (z.before ≡ true) ⊎ (k ≡ C)) (sym a.own) h.why;
+      all_ready = h.all_ready;
       each = λ m e. subst (λ ys. Resolves d (side_of x m) (z.to m ++ ys) (z.put_off m) (z.ready m) (z.at m) (z.back m))
           (sym (about-sent tell_in z.txn m sent r.out.letters ∙ ap (λ ys. about tell_in z.txn (letters_to m sent) ++ ys) (a.silent m)
           ∙ append-nil (about tell_in z.txn (letters_to m sent)))) (h.each m e);
@@ -158,6 +163,7 @@ decides-talking {d = d} z r s sent ok once rt left h =
     record {
       grows = λ i. commit-stays r.saw_commit r.saw_no d (h.grows i) saw.no;
       why = λ i. inr (own ∙ ap (λ c. moves.settled c (own_at s z.txn)) i ∙ committed (own_at s z.txn) (subst (λ c. Agreed c (own_at s z.txn)) i agreed));
+      all_ready = λ i. inr (λ m j. ready-of (hears m j));
       each = λ m i. decide-one z e (z.to m) (about tell_in z.txn (letters_to m (sent ++ (rows.decides s r).out.letters)))
           (about tell_in z.txn (letters_to m sent)) (about tell_in z.txn (letters_to m (rows.decides s r).out.letters))
           (about-sent tell_in z.txn m sent (rows.decides s r).out.letters) (told m i) (hears m i);

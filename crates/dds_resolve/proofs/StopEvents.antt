@@ -19,12 +19,14 @@ use Rattle.dds_talk.proofs.Letters.{about-append}
 use Rattle.dds_talk.specs.Resolve.{Agreed, Resolves}
 use Rattle.dds_talk.specs.Seen.{about, of}
 use Rattle.dds_resolve.proofs.OneResolver.{NoTeam, rests-lost, team-or}
+use Rattle.dds_resolve.proofs.Outcomes.{all-told}
 use Rattle.dds_resolve.proofs.ResolverSteps.{brick-same}
-use Rattle.dds_resolve.specs.Resolved.{Alive, Lost, Pair, Resolve}
+use Rattle.dds_resolve.proofs.TeamTurns.{not-both}
+use Rattle.dds_resolve.specs.Resolved.{Alive, LeftOver, LeftPair, Lost, Pair, Resolve, ToldOk}
 use Rattle.dds_resolve.specs.Resolving.{own_at, side, status_in, tell_in}
 use Rattle.dds_resolve.specs.Team.{Ground, LetterOk, Team}
-use Rattle.dds_resolve.specs.Teams.{NodeOk, Teams, ground}
-use Rattle.dds_resolve.proofs.LibraryEvents.{node-at, node-other, channel-other, channel-from, alive-same, lost-same}
+use Rattle.dds_resolve.specs.Teams.{BrickIs, NodeOk, Teams, ground, is_stopped}
+use Rattle.dds_resolve.proofs.LibraryEvents.{node-at, node-other, channel-other, channel-from, alive-same, left-same, lost-same}
 
 -- A node that stops, and one that stopped, keep the conversations of all live resolvers.
 
@@ -56,6 +58,18 @@ lost-now {w = w} {v = v} {d = d} {t = t} {list = list} {f = f} {n = n} {x = x} {
       now = subst (Resolves d (side x t n) (about tell_in t (w.channel f n) ++ []) h.put (is_ready s.known t list f) (own_at s t))
           (was ∙ ap (λ k. k ++ about status_in t gone) (sym now)) h.now;
     }
+
+-- what a resolver has sent when it stops
+left-now : {w v : Net} {d : Bool} {t : Txn} {list : List ℕ} {n m : ℕ} {y : BrickState} (s : BrickState) (kept gone more : List Letter) →
+    w.channel n m ≡ kept ++ gone → v.channel n m ≡ kept ++ more → about tell_in t more ≡ [] → Alive w d t list n m s y → LeftOver v d t list n m y
+left-now {w = w} {v = v} {d = d} {t = t} {list = list} {n = n} {m = m} {y = y} s kept gone more e i silent h =
+    let P = ToldOk d (is_ready y.known t list n) in
+    let was : about tell_in t (w.channel n m) ≡ about tell_in t kept ++ about tell_in t gone = ap (about tell_in t) e
+    ∙ about-append tell_in t kept gone in
+    let now : about tell_in t (v.channel n m) ≡ about tell_in t kept = ap (about tell_in t) i ∙ about-append tell_in t kept more
+    ∙ ap (λ k. about tell_in t kept ++ k) silent ∙ append-nil (about tell_in t kept) in
+    let all : AllByRecursion P (about tell_in t (w.channel n m)) = subst (AllByRecursion P) (append-nil (about tell_in t (w.channel n m))) (all-told h.now) in
+    record { told = subst (AllByRecursion P) (sym now) (all-front P (about tell_in t kept) (about tell_in t gone) (subst (AllByRecursion P) was all)) }
 
 module _ (z : Sizes) (w : Net) (n : ℕ) (s : BrickState) (kept : ℕ → List Letter) (list : Txn → List ℕ) (d : Txn → Bool) (here : w.node n ≡ a_brick s)
     (live : s.stopped ≡ false)
@@ -97,6 +111,23 @@ module _ (z : Sizes) (w : Net) (n : ℕ) (s : BrickState) (kept : ℕ → List L
       pick (inr none) = rests-lost (changed w ending) (ground z w list) (d t) t f n x none (subst (NodeOk (ground z w list) f) e (teams.nodes f))
           (stop-between f)
 
+  -- a brick knows no live one
+  known-not : (m : ℕ) (y : BrickState) → w.node m ≡ a_brick y → y.stopped ≡ false → has_node s.known m ≡ false
+  known-not m y e lives = pick (has_node s.known m) refl
+    where
+      pick : (k : Bool) → has_node s.known m ≡ k → k ≡ false
+      pick false i = refl
+      pick true i =
+          let b : BrickIs (ground z w list) n s = subst (NodeOk (ground z w list) n) here (teams.nodes n) in
+          absurd (not-both (is_stopped (w.node m)) (b.known m i) (ap is_stopped e ∙ lives))
+
+  left-here : (t : Txn) (m : ℕ) (y : BrickState) → w.node m ≡ a_brick y → y.stopped ≡ false → has (list t) m ≡ true →
+      (n == m) ≡ false → LeftOver (changed w ending) (d t) t (list t) n m y
+  left-here t m y e lives listed apart =
+      left-now {y = y} s (kept m) (front m).gone (notice_to z n m) (front m).is (channel-from w ending m)
+      (silent-notice tell_in t (is_in z m && not (m == n)) refl)
+      (h.alive t n m s y (record { resolver = here; lives = live; member = e; apart = apart; in_list = listed; unknown = known-not m y e lives }) lives)
+
   pub stops-resolve : Resolve (changed w ending) list d
   stops-resolve =
       record {
@@ -114,6 +145,7 @@ module _ (z : Sizes) (w : Net) (n : ℕ) (s : BrickState) (kept : ℕ → List L
               unknown = p.unknown;
             }) lives);
         lost = λ t f m x y p stops. lost-if t f m x y p stops (m == n) refl;
+        left = λ t f m x y p. left-if t f m x y p (f == n) refl;
         seen = λ t f x e lives. h.seen t f x (stop-was f x (elsewhere f x e lives) e) lives;
       }
     where
@@ -136,6 +168,26 @@ module _ (z : Sizes) (w : Net) (n : ℕ) (s : BrickState) (kept : ℕ → List L
             in_list = p.in_list;
             unknown = p.unknown;
           }) stops)
+
+      left-if : (t : Txn) (f m : ℕ) (x y : BrickState) → LeftPair (changed w ending) list t f m x y → (k : Bool) → (f == n) ≡ k →
+          LeftOver (changed w ending) (d t) t (list t) f m y
+      left-if t f m x y p true i =
+          let mn = elsewhere m y p.member p.lives in
+          let fn : f ≡ n = eqb-true f n i in
+          subst (λ k. LeftOver (changed w ending) (d t) t (list t) k m y) (sym fn)
+          (left-here t m y (stop-was m y mn p.member) p.lives p.in_list (ap (λ k. k == m) (sym fn) ∙ p.apart))
+      left-if t f m x y p false i =
+          let mn = elsewhere m y p.member p.lives in
+          left-same {y = y} {q = y} (ap (about tell_in t) (channel-other w ending f m i mn)) refl
+          (h.left t f m x y (record {
+            resolver = stop-was f x i p.resolver;
+            stops = p.stops;
+            member = stop-was m y mn p.member;
+            lives = p.lives;
+            apart = p.apart;
+            in_list = p.in_list;
+            unknown = p.unknown;
+          }))
 
 -- A node that stopped loses a letter that comes to it
 nothing-gained : (z : Sizes) (b : ℕ) → gains z [] b ≡ []
@@ -193,5 +245,15 @@ module _ (z : Sizes) (w : Net) (at from : ℕ) (list : Txn → List ℕ) (d : Tx
             (h.alive t f m x y (deaf-pair t f m x y p) lives);
         lost = λ t f m x y p stops. lost-same (ap (about status_in t) (deaf-same m f (not-deaf f x (deaf-was f x p.resolver) p.lives))) refl
             (h.lost t f m x y (deaf-pair t f m x y p) stops);
+        left = λ t f m x y p. left-same {y = y} {q = y} (ap (about tell_in t) (deaf-same f m (not-deaf m y (deaf-was m y p.member) p.lives))) refl
+            (h.left t f m x y (record {
+              resolver = deaf-was f x p.resolver;
+              stops = p.stops;
+              member = deaf-was m y p.member;
+              lives = p.lives;
+              apart = p.apart;
+              in_list = p.in_list;
+              unknown = p.unknown;
+            }));
         seen = λ t f x e lives. h.seen t f x (deaf-was f x e) lives;
       }

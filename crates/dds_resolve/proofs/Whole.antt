@@ -20,7 +20,7 @@ use Rattle.dds_resolve.proofs.LibraryEvents.{Library, Unmoved, channel-other, li
 use Rattle.dds_resolve.proofs.StopEvents.{stops-resolve, unheard-resolve}
 use Rattle.dds_resolve.proofs.OrderEvents.{told-resolve}
 use Rattle.dds_resolve.proofs.Beside.{Beside}
-use Rattle.dds_resolve.proofs.Keeps.{resolve-takes}
+use Rattle.dds_resolve.proofs.BrickEvents.{resolve-takes}
 use Rattle.dds_resolve.proofs.OneResolver.{NoTeam}
 use Rattle.dds_resolve.proofs.ReadyKeeps.{AreReady, ready-kept, was-ready}
 use Rattle.dds_resolve.proofs.TeamKeeps.{teams-kept}

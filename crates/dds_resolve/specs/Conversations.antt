@@ -48,10 +48,11 @@ SeenOk d list a None = Unit {0}
 SeenOk d list a (Some r) = SawOk d list a r
 
 -- whether a commit is decided by now, what the resolver has of the attempt, its state, and what it has sent so far in this turn. A
--- commit that is decided in this turn is one that the resolver notes itself.
+-- commit that is decided in this turn is one that the resolver notes itself, where each live member is ready.
 pub record Talking (z : Round) (d : Bool) (x : Option Resolving) (s : BrickState) (sent : List (NodeNo × Letter)) : Type 0 where
   pub grows : z.before ≡ true → d ≡ true
   pub why : d ≡ true → (z.before ≡ true) ⊎ (own_at s z.txn ≡ C)
+  pub all_ready : d ≡ true → (z.before ≡ true) ⊎ ((m : ℕ) → z.live m ≡ true → z.ready m ≡ true)
   pub each : (m : ℕ) → z.live m ≡ true → Resolves d (side_of x m) (z.to m ++ about tell_in z.txn (letters_to m sent)) (z.put_off m) (z.ready m) (z.at m)
       (z.back m)
   pub mates : (m : ℕ) → z.live m ≡ true → Agreed d (z.at m)

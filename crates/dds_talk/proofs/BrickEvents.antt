@@ -203,14 +203,14 @@ prepare-done z w v n from s p below name stamp b a turn knows bound =
       once = λ t c e. inr (stood-noted (b.noted n) s t c ok (prepare-old s from p below name stamp t c e));
     })
 
-commit-fresh : (s : BrickState) (from : NodeNo) (x t : Txn) → same_txn x t ≡ false → Done s (calls.commit_row s from x).state t
+pub commit-fresh : (s : BrickState) (from : NodeNo) (x t : Txn) → same_txn x t ≡ false → Done s (calls.commit_row s from x).state t
     → (calls.commit_row s from x).state.locks.pending ≡ (calls.dropped s x).locks.pending
     → get (calls.commit_row s from x).state.locks.outcomes t ≡ get s.locks.outcomes t
 commit-fresh s from x t ne (same p o) e = o
 commit-fresh s from x t ne (ended c p q r) e =
     let bad : true ≡ false = sym p ∙ sym (pending-other s.locks.pending x t ne) ∙ ap (λ ps. is_pending ps t) (sym e) ∙ q in cc
 
-commit-left : (s : BrickState) (from : NodeNo) (x : Txn) (q : Option Pending)
+pub commit-left : (s : BrickState) (from : NodeNo) (x : Txn) (q : Option Pending)
     → (calls.commit_found (calls.dropped s x) from q).state.locks.pending ≡ (calls.dropped s x).locks.pending
 commit-left s from x None = refl
 commit-left s from x (Some p) = refl
@@ -249,7 +249,7 @@ commit-row-done z w v n from s x b a turn knows =
       once = λ t c e. done-once (b.noted n) s r.state t c ok (done t) e;
     })
 
-abort-old : (s : BrickState) (x : Txn) (q : Option Pending) (t : Txn) → get (calls.aborted (calls.dropped s x) q).locks.outcomes t ≡ Some true
+pub abort-old : (s : BrickState) (x : Txn) (q : Option Pending) (t : Txn) → get (calls.aborted (calls.dropped s x) q).locks.outcomes t ≡ Some true
     → get s.locks.outcomes t ≡ Some true
 abort-old s x None t e = e
 abort-old s x (Some p) t e = elim (same_txn p.txn t) as (λ q. same_txn p.txn t ≡ q → get s.locks.outcomes t ≡ Some true) [

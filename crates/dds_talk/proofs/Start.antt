@@ -24,7 +24,7 @@ use Rattle.dds_talk.specs.Table.Talk.{unmade}
 
 -- The parts hold before the first step: nothing is open, pending or noted, and nothing is on its way.
 
-is-brick : (o : OpeningOf) (n : ℕ) (x : Node) (s : BrickState) → IsNew o n x → x ≡ a_brick s → new_brick o.leaves n ≡ s
+pub is-brick : (o : OpeningOf) (n : ℕ) (x : Node) (s : BrickState) → IsNew o n x → x ≡ a_brick s → new_brick o.leaves n ≡ s
 is-brick o n x s (no_node e) f = let q : nowhere ≡ a_brick s = sym e ∙ f in cc
 is-brick o n x s (new_a_brick e) f = let q : a_brick (new_brick o.leaves n) ≡ a_brick s = sym e ∙ f in cc
 is-brick o n x s (new_a_library h e) f = let q : a_library (new_library o (n - 64)) ≡ a_brick s = sym e ∙ f in cc

@@ -1,0 +1,15 @@
+pub mod Low
+pub mod Guides
+pub mod Senders
+pub mod Owed
+pub mod Agreeing
+pub mod Opens
+pub mod Says
+pub mod Standing
+pub mod Noted
+pub mod Going
+pub mod Settling
+pub mod Given
+pub mod Knot
+pub mod Start
+pub mod Runs

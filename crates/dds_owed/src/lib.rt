@@ -1,4 +1,0 @@
-//! What links and books give two-phase commit.
-#![tactic(auto)]
-
-pub mod laws;
