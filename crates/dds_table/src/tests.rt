@@ -1,94 +1,25 @@
-//! Calls of a store in turn, with what each answers, over disks of memory.
+//! A store at work over disks of memory.
 
-ghost use Rattle.std.specs.Prelude.{◌≡◌, false, OnOk};
+ghost use Rattle.std.specs.Prelude.{◌≡◌, ◌<◌, false, OnOk};
 
 use crate::fault::TableFault;
 use crate::store::Store;
 use dds_base::memory::Memory;
 use dds_base::name::LeafName;
+use dds_base::pair::Pair;
 use dds_base::value::Value;
 use dds_disk::disk::Disk;
 use dds_disk::memory_disk::MemoryDisk;
+use dds_disk::zero_disk::ZeroDisk;
 use dds_groups::halves::{high_half, low_half};
 use std::alloc::Global;
 use std::test::Fail;
 
-/// A call of a store for one of its tables.
-#[derive(Clone, Copy)]
-pub(crate) enum Call {
-    Add,
-    Put { key: u64, len: usize },
-    Get { key: u64 },
-    Remove { key: u64 },
-    Part { most: usize },
-    Split,
-    Drop,
-}
-
-/// The answer of a get of a key that isn't bound.
-const NONE: usize = usize::MAX;
-
-pub(crate) const WHOLE: (u16, u8) = (0, 0);
-
-const EVEN: (u16, u8) = (0, 1);
-
-const ODD: (u16, u8) = (1, 1);
-
-/// Calls: the bits and depth of the table's name, the call, and its answer as a number. That of a put or a remove is 1
-/// where the key was bound, that of a get is the value's length, and that of a part is how many pairs it has.
-pub(crate) const CALLS: [((u16, u8), Call, usize); 31] = [
-    (WHOLE, Call::Add, 0),
-    (WHOLE, Call::Put { key: 1, len: 5 }, 0),
-    (WHOLE, Call::Put { key: 2, len: 5 }, 0),
-    (WHOLE, Call::Put { key: 3, len: 5 }, 0),
-    (WHOLE, Call::Part { most: 2 }, 2),
-    (WHOLE, Call::Part { most: 4 }, 3),
-    (WHOLE, Call::Drop, 0),
-    (WHOLE, Call::Add, 0),
-    (WHOLE, Call::Put { key: 0, len: 3 }, 0),
-    (WHOLE, Call::Put { key: 0, len: 0 }, 1),
-    (WHOLE, Call::Get { key: 0 }, 0),
-    (WHOLE, Call::Put { key: 1, len: 4_000 }, 0),
-    (WHOLE, Call::Put { key: 2, len: 4_001 }, 0),
-    (WHOLE, Call::Put { key: 3, len: 8_160 }, 0),
-    (
-        WHOLE,
-        Call::Put {
-            key: 4,
-            len: 60_000,
-        },
-        0,
-    ),
-    (
-        WHOLE,
-        Call::Put {
-            key: 4,
-            len: 60_000,
-        },
-        1,
-    ),
-    (WHOLE, Call::Get { key: 1 }, 4_000),
-    (WHOLE, Call::Get { key: 2 }, 4_001),
-    (WHOLE, Call::Get { key: 3 }, 8_160),
-    (WHOLE, Call::Get { key: 4 }, 60_000),
-    (WHOLE, Call::Get { key: 5 }, NONE),
-    (WHOLE, Call::Split, 0),
-    (EVEN, Call::Get { key: 4 }, 60_000),
-    (EVEN, Call::Get { key: 3 }, NONE),
-    (EVEN, Call::Part { most: 9 }, 3),
-    (ODD, Call::Get { key: 3 }, 8_160),
-    (ODD, Call::Get { key: 4 }, NONE),
-    (ODD, Call::Part { most: 9 }, 2),
-    (ODD, Call::Remove { key: 3 }, 1),
-    (ODD, Call::Remove { key: 3 }, 0),
-    (ODD, Call::Get { key: 3 }, NONE),
-];
-
-/// A value of this length, whose bytes are the last digits of their places.
-fn value_of(alloc: Global, len: usize) -> Result<Value, Memory> {
+/// A value of this length.
+pub(crate) fn value_of(alloc: Global, len: usize, byte: u8) -> Result<Value, Memory> {
     let mut bytes = Vec::new(alloc);
-    for place in 0..len {
-        bytes.push((place % 10) as u8)?;
+    for n in 0..len {
+        bytes.push(byte.wrapping_add((n % 251) as u8))?;
     }
     match Value::from_vec(bytes) {
         Some(value) => Ok(value),
@@ -96,74 +27,235 @@ fn value_of(alloc: Global, len: usize) -> Result<Value, Memory> {
     }
 }
 
-/// Puts where the store's conditions hold, which it tests.
-fn put<D: Disk>(
-    alloc: Global,
+/// The name of the table of all keys.
+pub(crate) fn whole() -> Result<LeafName, Fail> {
+    match LeafName::of(0, 0) {
+        Some(name) => Ok(name),
+        None => Err(Fail::new("no name")),
+    }
+}
+
+/// Puts where the store's conditions hold, which it tests; `Err` says which fault came.
+pub(crate) fn try_put<D: Disk>(
     store: &mut Store<D>,
     name: LeafName,
     key: u64,
-    len: usize,
-) -> Result<usize, TableFault>
+    value: &Value,
+) -> Result<bool, TableFault>
     requires { store.old.failed ≡ false }
     ensures { OnOk result (store.new.failed ≡ false) }
 {
-    let value = value_of(alloc, len)?;
-    if !store.has(name) || !name.covers(key) || store.len(name) >= 16_384 {
+    if !store.has(name) || !name.covers(key) {
         return Err(TableFault::Memory);
     }
-    Ok(usize::from(store.put(name, key, &value)?))
+    if store.len(name) >= 16_384 {
+        return Err(TableFault::Memory);
+    }
+    store.put(name, key, value)
 }
 
-/// The length of a key's value, all of whose bytes are as they were put.
-fn get<D: Disk>(
-    alloc: Global,
+/// The length of a key's value and its first byte.
+fn try_get<D: Disk>(
     store: &mut Store<D>,
     name: LeafName,
     key: u64,
-) -> Result<usize, TableFault>
+) -> Result<Option<(usize, u8)>, TableFault>
     requires { store.old.failed ≡ false }
     ensures { OnOk result (store.new.failed ≡ false) }
 {
     if !store.has(name) {
         return Err(TableFault::Memory);
     }
-    match store.get(name, key)? {
-        Some(value) => same_len(alloc, &value),
-        None => Ok(NONE),
+    match store.get(name, key) {
+        Ok(Some(value)) => Ok(Some(shown(&value))),
+        Ok(None) => Ok(None),
+        Err(fault) => Err(fault),
     }
 }
 
-/// The value's length where it is the one that was put, and else 1.
-fn same_len(alloc: Global, value: &Value) -> Result<usize, TableFault> {
-    let len = value.bytes().len();
-    if value.same(&value_of(alloc, len)?) {
-        Ok(len)
-    } else {
-        Ok(1)
+/// A value's length and its last byte.
+fn shown(value: &Value) -> (usize, u8) {
+    let bytes = value.bytes();
+    match bytes.last() {
+        Some(byte) => (bytes.len(), *byte),
+        None => (0, 0),
     }
 }
 
-fn remove<D: Disk>(store: &mut Store<D>, name: LeafName, key: u64) -> Result<usize, TableFault>
+/// Removes where the store's conditions hold.
+pub(crate) fn try_remove<D: Disk>(
+    store: &mut Store<D>,
+    name: LeafName,
+    key: u64,
+) -> Result<bool, TableFault>
     requires { store.old.failed ≡ false }
     ensures { OnOk result (store.new.failed ≡ false) }
 {
     if !store.has(name) {
         return Err(TableFault::Memory);
     }
-    Ok(usize::from(store.remove(name, key)?))
+    store.remove(name, key)
 }
 
-fn part<D: Disk>(store: &mut Store<D>, name: LeafName, most: usize) -> Result<usize, TableFault>
+/// Binds and unbinds keys of values of each kind, and says how many answers were as they must be.
+fn work<D: Disk>(alloc: Global, store: &mut Store<D>, name: LeafName) -> Result<u32, TableFault>
+    requires { store.old.failed ≡ false }
+{
+    store.add(name)?;
+    let mut right = 0u32;
+    for (n, len) in [3usize, 0, 4_000, 4_001, 8_160, 60_000].iter().enumerate() {
+        let value = value_of(alloc, *len, 7)?;
+        let key = n as u64;
+        right += u32::from(!try_put(store, name, key, &value)?);
+        right += u32::from(try_put(store, name, key, &value)?);
+        right += u32::from(try_get(store, name, key)? == Some(shown(&value)));
+    }
+    right += u32::from(try_remove(store, name, 5)?);
+    right += u32::from(!try_remove(store, name, 5)?);
+    right += u32::from(try_get(store, name, 5)?.is_none());
+    right += u32::from(try_get(store, name, 3)?.is_some());
+    Ok(right)
+}
+
+/// The keys of a part and whether it is the last.
+fn try_part<D: Disk>(
+    alloc: Global,
+    store: &mut Store<D>,
+    name: LeafName,
+    after: Option<u64>,
+    most: usize,
+) -> Result<(Vec<u64>, bool), TableFault>
     requires { store.old.failed ≡ false }
     ensures { OnOk result (store.new.failed ≡ false) }
 {
     if !store.has(name) {
         return Err(TableFault::Memory);
     }
-    Ok(store.part(name, None, most)?.pairs.len())
+    match store.part(name, after, most) {
+        Ok(part) => Ok((keys(alloc, part.pairs.as_slice())?, part.last)),
+        Err(fault) => Err(fault),
+    }
 }
 
-fn split<D: Disk>(store: &mut Store<D>, name: LeafName) -> Result<usize, TableFault>
+/// The keys of some pairs.
+fn keys(alloc: Global, pairs: &[Pair]) -> Result<Vec<u64>, Memory> {
+    let mut keys = Vec::new(alloc);
+    for pair in pairs {
+        keys.push(pair.key)?;
+    }
+    Ok(keys)
+}
+
+/// Adds a table of the keys 1, 2 and 3, reads it in two parts, and drops it; says whether each
+/// answer was as it must be.
+fn parts<D: Disk>(alloc: Global, store: &mut Store<D>, name: LeafName) -> Result<bool, TableFault>
+    requires { store.old.failed ≡ false }
+    ensures { OnOk result (store.new.failed ≡ false) }
+{
+    store.add(name)?;
+    let value = value_of(alloc, 5, 1)?;
+    for key in 1..4u64 {
+        try_put(store, name, key, &value)?;
+    }
+    let (first, last) = try_part(alloc, store, name, None, 2)?;
+    let right = first.as_slice() == [2, 1].as_slice() && !last;
+    let (second, last) = try_part(alloc, store, name, Some(1), 2)?;
+    let right = right && second.as_slice() == [3].as_slice() && last;
+    if !store.has(name) {
+        return Ok(false);
+    }
+    store.drop_table(name);
+    Ok(right && !store.has(name))
+}
+
+/// The parts of a table, and then the work of another one that takes its pages.
+fn parts_and_work<D: Disk>(
+    alloc: Global,
+    store: &mut Store<D>,
+    name: LeafName,
+) -> Result<u32, TableFault>
+    requires { store.old.failed ≡ false }
+{
+    if !parts(alloc, store, name)? {
+        return Ok(0);
+    }
+    work(alloc, store, name)
+}
+
+#[test]
+fn reads_parts_in_the_order_of_places(rt: HostRuntime) -> Result<(), Fail> {
+    let name = whole()?;
+    let mut disk = MemoryDisk::new(rt.alloc(), &[])?;
+    let mut store = Store::new(rt.alloc(), &mut disk)?;
+    assert_eq!(rt; parts_and_work(rt.alloc(), &mut store, name), Ok(22));
+    Ok(())
+}
+
+#[test]
+fn binds_and_unbinds(rt: HostRuntime) -> Result<(), Fail> {
+    let name = whole()?;
+    let mut disk = MemoryDisk::new(rt.alloc(), &[])?;
+    let mut store = Store::new(rt.alloc(), &mut disk)?;
+    assert_eq!(rt; work(rt.alloc(), &mut store, name), Ok(22));
+    Ok(())
+}
+
+#[test]
+fn a_call_of_the_disk_fails(rt: HostRuntime) -> Result<(), Fail> {
+    let name = whole()?;
+    for call in 0..120u64 {
+        let mut disk = MemoryDisk::new(rt.alloc(), &[call])?;
+        let mut store = Store::new(rt.alloc(), &mut disk)?;
+        let answer = work(rt.alloc(), &mut store, name);
+        let _disk = store.into_disk();
+        if disk.faults() == 0 {
+            assert_eq!(rt; answer, Ok(22), "call {call}");
+        } else {
+            assert_eq!(rt; answer, Err(TableFault::Disk), "call {call}");
+        }
+    }
+    Ok(())
+}
+
+/// Puts many keys and reads them again; says how many were there, or which fault came.
+pub(crate) fn many<D: Disk>(
+    alloc: Global,
+    store: &mut Store<D>,
+    name: LeafName,
+) -> Result<u32, TableFault>
+    requires { store.old.failed ≡ false }
+{
+    store.add(name)?;
+    for key in 0..100u64 {
+        let value = value_of(alloc, 10, key as u8)?;
+        try_put(store, name, key, &value)?;
+    }
+    let mut right = 0u32;
+    for key in 0..100u64 {
+        let wanted = (10, (key as u8).wrapping_add(9));
+        if try_get(store, name, key)? == Some(wanted) {
+            right += 1;
+        }
+    }
+    Ok(right)
+}
+
+#[test]
+fn a_disk_forgets(rt: HostRuntime) -> Result<(), Fail> {
+    let name = whole()?;
+    for (honest, all) in [(0u64, false), (40, false), (1_000, true)] {
+        let disk = ZeroDisk::new(rt.alloc(), honest)?;
+        let mut store = Store::new(rt.alloc(), disk)?;
+        match many(rt.alloc(), &mut store, name) {
+            Ok(right) => assert_eq!(rt; (right, all), (100, true)),
+            Err(fault) => assert!(rt; !all && matches!(fault, TableFault::Page { page: _ })),
+        }
+    }
+    Ok(())
+}
+
+/// Splits where the store's conditions hold.
+fn try_split<D: Disk>(store: &mut Store<D>, name: LeafName) -> Result<(), TableFault>
     requires { store.old.failed ≡ false }
     ensures { OnOk result (store.new.failed ≡ false) }
 {
@@ -173,71 +265,44 @@ fn split<D: Disk>(store: &mut Store<D>, name: LeafName) -> Result<usize, TableFa
     if store.has(low_half(name)) || store.has(high_half(name)) {
         return Err(TableFault::Memory);
     }
-    store.split(name)?;
-    Ok(0)
+    store.split(name)
 }
 
-fn drop_table<D: Disk>(store: &mut Store<D>, name: LeafName) -> Result<usize, TableFault>
-    requires { store.old.failed ≡ false }
-    ensures { OnOk result (store.new.failed ≡ false) }
-{
-    if !store.has(name) {
-        return Err(TableFault::Memory);
-    }
-    store.drop_table(name);
-    Ok(0)
-}
-
-fn add<D: Disk>(store: &mut Store<D>, name: LeafName) -> Result<usize, TableFault>
-    requires { store.old.failed ≡ false }
-    ensures { OnOk result (store.new.failed ≡ false) }
-{
-    store.add(name)?;
-    Ok(0)
-}
-
-/// What a call answers, as a number.
-pub(crate) fn answer<D: Disk>(
+/// Splits a table of the keys 1 to 9; says how many answers were as they must be.
+pub(crate) fn halves<D: Disk>(
     alloc: Global,
     store: &mut Store<D>,
     name: LeafName,
-    call: Call,
-) -> Result<usize, TableFault>
-    requires { store.old.failed ≡ false }
-    ensures { OnOk result (store.new.failed ≡ false) }
-{
-    match call {
-        Call::Add => add(store, name),
-        Call::Put { key, len } => put(alloc, store, name, key, len),
-        Call::Get { key } => get(alloc, store, name, key),
-        Call::Remove { key } => remove(store, name, key),
-        Call::Part { most } => part(store, name, most),
-        Call::Split => split(store, name),
-        Call::Drop => drop_table(store, name),
-    }
-}
-
-/// Makes the calls; says how many answered what is wanted.
-pub(crate) fn run<D: Disk>(
-    alloc: Global,
-    store: &mut Store<D>,
-    calls: &[((u16, u8), Call, usize)],
 ) -> Result<u32, TableFault>
-    requires { store.old.failed ≡ false }
-    ensures { OnOk result (store.new.failed ≡ false) }
+    requires live { store.old.failed ≡ false }
+    requires depth { name.depth < 16 }
 {
-    let mut right = 0u32;
-    for ((bits, depth), call, want) in calls {
-        let name = LeafName::of(*bits, *depth).ok_or(TableFault::Memory)?;
-        let found = answer(alloc, store, name, *call)?;
-        right = right.wrapping_add(u32::from(found == *want));
+    let (low, high) = (low_half(name), high_half(name));
+    store.add(name)?;
+    let value = value_of(alloc, 5, 1)?;
+    for key in 1..10u64 {
+        try_put(store, name, key, &value)?;
+    }
+    try_split(store, name)?;
+    let mut right = u32::from(!store.has(name));
+    for key in 1..10u64 {
+        let (found, other) = if key % 2 == 0 {
+            (low, high)
+        } else {
+            (high, low)
+        };
+        right += u32::from(try_get(store, found, key)? == Some(shown(&value)));
+        right += u32::from(try_get(store, other, key)?.is_none());
     }
     Ok(right)
 }
 
 #[test]
-fn a_store_answers_as_wanted(rt: HostRuntime) -> Result<(), Fail> {
-    let mut store = Store::new(rt.alloc(), MemoryDisk::new(rt.alloc(), &[])?)?;
-    assert_eq!(rt; run(rt.alloc(), &mut store, &CALLS), Ok(31));
+fn splits(rt: HostRuntime) -> Result<(), Fail> {
+    let name = whole()?;
+    assert!(rt; name.depth() < 16);
+    let mut disk = MemoryDisk::new(rt.alloc(), &[])?;
+    let mut store = Store::new(rt.alloc(), &mut disk)?;
+    assert_eq!(rt; halves(rt.alloc(), &mut store, name), Ok(19));
     Ok(())
 }
