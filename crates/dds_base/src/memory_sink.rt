@@ -111,18 +111,3 @@ impl Sink for MemorySink {
         }
     }
 }
-
-#[cfg(test)]
-mod tests {
-    use super::*;
-    use crate::sink::write_all;
-    use std::test::Fail;
-
-    #[test]
-    fn takes_a_text_in_pieces(rt: HostRuntime) -> Result<(), Fail> {
-        let mut sink = MemorySink::new(rt.alloc(), &[], 3, 10)?;
-        assert_eq!(rt; write_all(&mut sink, b"0123456789"), Ok(()));
-        assert_eq!(rt; sink.written(), b"0123456789".as_slice());
-        Ok(())
-    }
-}

@@ -107,18 +107,3 @@ impl Source for MemorySource {
         Ok(n)
     }
 }
-
-#[cfg(test)]
-mod tests {
-    use super::*;
-    use crate::source::read_all;
-    use std::test::Fail;
-
-    #[test]
-    fn is_read_to_its_end(rt: HostRuntime) -> Result<(), Fail> {
-        let mut source = MemorySource::new(rt.alloc(), b"one\n\nfour\n", &[])?;
-        let text = read_all(rt.alloc(), &mut source, 10, 3)?;
-        assert_eq!(rt; text.as_slice(), b"one\n\nfour\n".as_slice());
-        Ok(())
-    }
-}

@@ -112,37 +112,3 @@ impl<W: Write + Drop> Sink for StdSink<W> {
         }
     }
 }
-
-#[cfg(test)]
-mod tests {
-    use super::*;
-    use crate::source::read_all;
-    use std::test::Fail;
-
-    #[test]
-    fn reads_what_the_reader_gives(rt: HostRuntime) -> Result<(), Fail> {
-        let mut source = StdSource::new("two\nlines\n".as_bytes());
-        let text = read_all(rt.alloc(), &mut source, 10, 2)?;
-        assert_eq!(rt; text.as_slice(), b"two\nlines\n".as_slice());
-        Ok(())
-    }
-
-    /// What a sink over this room answers to writes of three bytes, of three more, of one, and of none.
-    fn answers(room: &mut [u8]) -> [Result<usize, Failed>; 4] {
-        let mut sink = StdSink::new(room);
-        [
-            sink.write(b"abc"),
-            sink.write(b"def"),
-            sink.write(b"g"),
-            sink.write(b""),
-        ]
-    }
-
-    #[test]
-    fn writes_to_the_writer(rt: HostRuntime) {
-        let mut room = [0; 4];
-        assert_eq!(rt; answers(&mut room), [Ok(3), Ok(1), Err(Failed), Ok(0)]);
-        assert_eq!(rt; room, *b"abcd");
-        assert_eq!(rt; StdSink::new(&mut room[..]).flush(), Ok(()));
-    }
-}

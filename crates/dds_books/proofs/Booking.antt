@@ -74,8 +74,8 @@ heard-lists : (b : Book) (z : Sizes) (at : ℕ) (s : LibraryState) (from : NodeN
 heard-lists b z at s from letter.Notice h k = listing-first b z at s (heard s from letter.Notice) h k refl refl refl
 heard-lists b z at s from other h k = listing-first b z at s s h k refl refl refl
 
-pub took-lists : (z : Sizes) (n : Net) (b : Book) (at : ℕ) (from : NodeNo) (l : Letter) (s : LibraryState) → ArePlaced z n → AreListed n b → n.node at ≡ a_library s
-    → LetterOk (Made n) z from at l → Listing b s (live_library_turn s from l).state (live_library_turn s from l).out
+pub took-lists : (z : Sizes) (n : Net) (b : Book) (at : ℕ) (from : NodeNo) (l : Letter) (s : LibraryState) → ArePlaced z n → AreListed n b
+    → n.node at ≡ a_library s → LetterOk (Made n) z from at l → Listing b s (live_library_turn s from l).state (live_library_turn s from l).out
 took-lists z n b at from l s p g here first =
     let h = own-placed z n at s p here in
     library-keeps-if (IsOld s.next) (Listing b s) s from l (one-lists b s from l) (all-old z s.number s.next s.calls s.known h.calls)

@@ -8,6 +8,7 @@ use Rattle.dds_transcript.specs.Text.{report_text}
 use Rattle.dds_cluster.specs.Trace.{is_run, run_of}
 use Rattle.dds_world.specs.Stands.{Stands}
 use Rattle.dds_cluster.specs.declared.step.Step.{Step}
+use Rattle.dds_law_commit.specs.Calls.{AreKept}
 use Rattle.dds_law_commit.specs.Law.{AreCaused}
 use Rattle.dds_walk.specs.Law.{is_plain_line}
 use Rattle.dds_walk.specs.Walk.{steps, transcript}
@@ -22,13 +23,15 @@ pub record IsProvedToStand (script : Script) : Type 0 where
   pub first : script.opening ≡ first_opening
   pub plain : list_all is_plain_line script.lines ≡ true
 
--- the journal is the one that the script determines, and a run; and where the script is one of those that are proved to
--- stand, all calls stand in one legal history of one map, and each Again, Full and Lost has its cause in the journal
+-- the journal is the one that the script determines, and a run; each Again, Full and Lost has its cause in it; refused calls don't
+-- stand in its history, calls without a result once or never, and nothing but calls does; and where the script is one of those
+-- that are proved to stand, all calls stand in one legal history of one map
 pub record IsRunOf (script : Script) (journal : List Step) : Type 0 where
   pub follows : journal ≡ steps script
   pub run : is_run script.opening journal ≡ true
+  pub caused : AreCaused script.opening journal
+  pub kept : AreKept (run_of script.opening journal)
   pub stands : IsProvedToStand script → Stands (run_of script.opening journal)
-  pub caused : IsProvedToStand script → AreCaused script.opening journal
 
 -- the script is what the bytes spell, and the journal is its run
 pub record IsScriptRun (bytes : List ℕ) (script : Script) (journal : List Step) : Type 0 where

@@ -12,7 +12,7 @@ use dds_base::sink::Sink;
 use dds_base::source::{ReadEnd, Source, read_all};
 use dds_ends::command::{BYTES, LINES, is_step, write_transcript};
 use dds_ends::end::End;
-use dds_law_commit::laws::{answers_are_caused, runs_stand};
+use dds_law_commit::laws::{all_answers_are_caused, calls_are_kept, runs_stand};
 use dds_script::opening::Script;
 use dds_script::read_script::read_script;
 use dds_script::script_error::ScriptError;
@@ -71,13 +71,16 @@ fn run_script<K: Sink>(alloc: Global, script: &Script, sink: &mut K) -> Ended
     }
 }
 
-/// Runs a script. The laws say which scripts' runs stand in one legal history, with a cause for each refusal.
+/// Runs a script. The laws say what is so of every run, since each opening keeps what they ask of it, and which scripts' runs stand in
+/// one legal history.
 fn run(alloc: Global, script: &Script) -> Result<Walked, Memory>
     ensures ran { IfOk result (λ ran. IsRunOf script.now ran.journal) }
     ensures lines { IfOk result (λ ran. ran.lines.items ≡ transcript script.now ran.journal) }
 {
+    let _ranges = script.opening().ranges();
+    all_answers_are_caused();
+    calls_are_kept();
     runs_stand();
-    answers_are_caused();
     steps_are_plain();
     walk_script(alloc, script)
 }

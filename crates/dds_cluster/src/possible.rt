@@ -15,7 +15,7 @@ pub fn is_possible(trace: &Trace, step: &Step) -> bool
     ensures { result ≡ is_possible trace.now step.now }
 {
     match step {
-        Step::Input { node, input } => may_input(trace, *node, input),
+        Step::Input { node, input } => may_input(trace, *node, input.as_input()),
         Step::Handle { node, from } => may_handle(&trace.world, *node, *from),
         Step::Post { node } => may_post(&trace.world, *node),
         Step::Stop { node } => is_live(&trace.world, *node),

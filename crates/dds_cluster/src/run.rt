@@ -41,7 +41,7 @@ fn opened_by(callers: &mut Items<Caller>, step: &Step)
     ensures { callers.new ≡ opened_by callers.old step.now }
 {
     if let Step::Input { node: _, input } = step {
-        opened_in(callers, input);
+        opened_in(callers, input.as_input());
     }
 }
 
@@ -122,7 +122,7 @@ fn asked_by(at: u64, step: &Step, asked: &mut AskedList) -> Result<(), Memory>
     ensures { OnOk result (asked.new ≡ asked.old ++ asked_by at step.now) }
 {
     match step {
-        Step::Input { node: _, input } => asked_in(at, input, asked),
+        Step::Input { node: _, input } => asked_in(at, input.as_input(), asked),
         _ => Ok(()),
     }
 }

@@ -31,7 +31,7 @@ impl Cluster {
         ensures replies { IfOk result (λ happened. happened.replies ≡ (turn at self.old step.now).replies) }
     {
         match step {
-            Step::Input { node, input } => self.input(*node, input),
+            Step::Input { node, input } => self.input(*node, input.as_input()),
             Step::Handle { node, from } => self.handle(at, *node, *from),
             Step::Post { node } => self.post(*node),
             Step::Stop { node } => self.stop(*node),

@@ -15,9 +15,9 @@ use Rattle.dds_talk.specs.Parts.{Commit, SureAt}
 use Rattle.dds_talk.specs.Resolve.{Agreed}
 use Rattle.dds_talk.specs.Seen.{at, at_of, is_open, is_pending}
 use Rattle.dds_talk.specs.Table.{At}
-use Rattle.dds_talk.specs.Table.At.{N, P, C, A}
+use Rattle.dds_talk.specs.Table.At.{Unprepared, Prepared, Committed, Aborted}
 
--- DECIDE, NOTED and KEPT together: how far an attempt of a stopped library is at a live member fits what was decided.
+-- `decide`, `noted` and `kept` together: how far an attempt of a stopped library is at a live member fits what was decided.
 
 -- an attempt that is open at its stopped library
 pub record Frozen (n : Net) (t : Txn) : Type 0 where
@@ -37,10 +37,10 @@ pub frozen-is : (n : Net) (t : Txn) → is_frozen (n.node t.library) t ≡ true 
 frozen-is n t h = frozen-if n t (n.node t.library) refl h
 
 sure-agrees : (a : At) → SureAt a → Agreed true a
-sure-agrees N h = h
-sure-agrees P h = h
-sure-agrees C h = h
-sure-agrees A h = h
+sure-agrees Unprepared h = h
+sure-agrees Prepared h = h
+sure-agrees Committed h = h
+sure-agrees Aborted h = h
 
 fits-decided : (d p : Bool) (o : Option Bool) → (d ≡ true → SureAt (at_of p o)) → (o ≡ Some true → d ≡ true) → Agreed d (at_of p o)
 fits-decided true p o sure noted = sure-agrees (at_of p o) (sure refl)

@@ -21,49 +21,49 @@ use Rattle.dds_talk.specs.Parts.{Commit}
 use Rattle.dds_talk.specs.Seen.{asks, at, at_of, call_of, call_view, is_open, is_pending, says, view}
 use Rattle.dds_talk.specs.Table.{View, Ask, Say, At, IsTalk, Known, Talk, Talks}
 use Rattle.dds_talk.specs.Table.Ask.{prepare}
-use Rattle.dds_talk.specs.Table.At.{P}
+use Rattle.dds_talk.specs.Table.At.{Prepared}
 use Rattle.dds_talk.specs.Table.IsTalk.{unknowing, knowing}
 use Rattle.dds_talk.specs.Table.Talk.{asked, early, late_yes, said_yes, told_abort, told_commit, voted}
 use Rattle.dds_talk.specs.Table.Talks.{live, left}
-use Rattle.dds_talk.specs.Table.View.{New, Pw, Pv, Cw, Ca, Aw, Aa, Past, Off}
+use Rattle.dds_talk.specs.Table.View.{New, VoteDue, VoteHeard, CommitDue, CommitHeard, AbortDue, AbortHeard, Past, Off}
 
 -- What is pending at a live brick, or asked for by a prepare on its way there, is open at its library.
 
 abbrev OpenView : View → Type 0
 OpenView New = ⊥
-OpenView Pw = Unit {0}
-OpenView Pv = Unit {0}
-OpenView Cw = Unit {0}
-OpenView Ca = Unit {0}
-OpenView Aw = Unit {0}
-OpenView Aa = Unit {0}
+OpenView VoteDue = Unit {0}
+OpenView VoteHeard = Unit {0}
+OpenView CommitDue = Unit {0}
+OpenView CommitHeard = Unit {0}
+OpenView AbortDue = Unit {0}
+OpenView AbortHeard = Unit {0}
 OpenView Past = ⊥
 OpenView Off = ⊥
 
 -- by the table
-prepared-talk : {v : View} {o : List Ask} {b : List Say} → Talk v o P b → OpenView v
+prepared-talk : {v : View} {o : List Ask} {b : List Say} → Talk v o Prepared b → OpenView v
 prepared-talk said_yes = tt
 prepared-talk voted = tt
 prepared-talk told_commit = tt
 prepared-talk late_yes = tt
 prepared-talk told_abort = tt
 
-prepared-talks : {ll : Bool} {v : View} {o : List Ask} {b : List Say} → Talks ll true v o P b → OpenView v
+prepared-talks : {ll : Bool} {v : View} {o : List Ask} {b : List Say} → Talks ll true v o Prepared b → OpenView v
 prepared-talks (live h) = prepared-talk h
 prepared-talks (left cut h) = prepared-talk h
 
-prepared-known : (v : View) → Known v P → OpenView v
+prepared-known : (v : View) → Known v Prepared → OpenView v
 prepared-known New h = cc
-prepared-known Pw h = tt
-prepared-known Pv h = tt
-prepared-known Cw h = tt
-prepared-known Ca h = tt
-prepared-known Aw h = tt
-prepared-known Aa h = tt
+prepared-known VoteDue h = tt
+prepared-known VoteHeard h = tt
+prepared-known CommitDue h = tt
+prepared-known CommitHeard h = tt
+prepared-known AbortDue h = tt
+prepared-known AbortHeard h = tt
 prepared-known Past h = h refl
 prepared-known Off h = cc
 
-prepared-open : {ll k : Bool} {v : View} {o : List Ask} {a : At} {b : List Say} → a ≡ P → IsTalk ll true k v o a b → OpenView v
+prepared-open : {ll k : Bool} {v : View} {o : List Ask} {a : At} {b : List Say} → a ≡ Prepared → IsTalk ll true k v o a b → OpenView v
 prepared-open {ll = ll} {v = v} {o = o} {b = b} e (unknowing h) = prepared-talks (subst (λ a. Talks ll true v o a b) e h)
 prepared-open {v = v} e (knowing h) = prepared-known v (subst (Known v) e h)
 

@@ -35,7 +35,7 @@ use Rattle.dds_talk.specs.Resolve.{Agreed}
 use Rattle.dds_talk.specs.Seen.{asks, at_of, is_pending, noting}
 use Rattle.dds_talk.specs.Seen as seen
 use Rattle.dds_talk.specs.Table.{At}
-use Rattle.dds_talk.specs.Table.At.{N, P, C, A}
+use Rattle.dds_talk.specs.Table.At.{Unprepared, Prepared, Committed, Aborted}
 use Rattle.dds_commit.proofs.Agreeing.{frozen-is}
 use Rattle.dds_commit.proofs.Going.{may-go, sender-unknown, step}
 use Rattle.dds_commit.proofs.Noted.{OutcomeDone, outcome-done}
@@ -109,10 +109,10 @@ not-grown true e f g = absurd (not-both e (f refl) g)
 not-grown false e f g = refl
 
 sure-if : (x : At) → Agreed true x → SureAt x
-sure-if N h = h
-sure-if P h = h
-sure-if C h = h
-sure-if A h = h
+sure-if Unprepared h = h
+sure-if Prepared h = h
+sure-if Committed h = h
+sure-if Aborted h = h
 
 not-yes : (c : Bool) → c ≡ true → not c ≡ true → ⊥
 not-yes true e f = cc

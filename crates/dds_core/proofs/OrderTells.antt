@@ -198,8 +198,9 @@ module _ {L : Sent} {M : Given} where
   at_order s number test row h = rests-when _ (λ k. with_order s row s.order (λ t x e. h t x e (has-number number test s.order x k e))) (rests-still s s refl)
 
   fixed : (s : BrickState) (o : OpenOrder) (from : NodeNo) (leaf : Leaf) → Rests L M s (own_order.fixed s o from leaf)
-  fixed s o from leaf = rests-then s _ _ (rests-sends s s _ refl
-      (orders-each L (unknown_others leaf.list from s.known) (letter.Lease o.number (wanted.Leaf leaf)) (λ n. tt))) (λ u. leases_on u (own_order.widened s o from leaf))
+  fixed s o from leaf =
+      rests-then s _ _ (rests-sends s s _ refl (orders-each L (unknown_others leaf.list from s.known) (letter.Lease o.number (wanted.Leaf leaf)) (λ n. tt)))
+      (λ u. leases_on u (own_order.widened s o from leaf))
 
   fixes : (s : BrickState) (o : OpenOrder) (from : NodeNo) (leaf : Leaf) → Rests L M s (own_order.fixes s o from leaf)
   fixes s o from leaf = rests-if _ (ends s o answered.Worn tt) (rests-if _ (ends s o answered.GroupFull tt) (fixed s o from leaf))

@@ -120,20 +120,3 @@ impl Disk for MemoryDisk {
         Ok(())
     }
 }
-
-#[cfg(test)]
-mod tests {
-    use super::*;
-    use std::test::Fail;
-
-    #[test]
-    fn keeps_its_pages(rt: HostRuntime) -> Result<(), Fail> {
-        let mut disk = MemoryDisk::new(rt.alloc(), &[])?;
-        let mut lent = &mut disk;
-        assert_eq!(rt; lent.write(7, &[5; 4_096]), Ok(()));
-        let mut bytes = [0; 4_096];
-        assert_eq!(rt; lent.read(7, &mut bytes), Ok(()));
-        assert!(rt; bytes == [5; 4_096]);
-        Ok(())
-    }
-}

@@ -72,19 +72,3 @@ impl Disk for ZeroDisk {
         Ok(())
     }
 }
-
-#[cfg(test)]
-mod tests {
-    use super::*;
-    use std::test::Fail;
-
-    #[test]
-    fn gives_what_was_written(rt: HostRuntime) -> Result<(), Fail> {
-        let mut disk = ZeroDisk::new(rt.alloc(), 1)?;
-        assert_eq!(rt; disk.write(7, &[5; 4_096]), Ok(()));
-        let mut bytes = [0; 4_096];
-        assert_eq!(rt; disk.read(7, &mut bytes), Ok(()));
-        assert!(rt; bytes == [5; 4_096]);
-        Ok(())
-    }
-}

@@ -12,8 +12,6 @@ mod parts;
 pub mod reader;
 mod refusals;
 mod tag;
-#[cfg(test)]
-mod tests;
 mod writer;
 mod writer_letters;
 mod writer_parts;

@@ -7,5 +7,3 @@ pub mod made;
 pub mod order;
 pub mod successor;
 pub mod take;
-#[cfg(test)]
-mod tests;

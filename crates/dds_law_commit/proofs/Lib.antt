@@ -12,3 +12,5 @@ pub mod Answering
 pub mod Runs
 pub mod Standing
 pub mod Dues
+pub mod Causes
+pub mod Calls

@@ -1,1 +1,4 @@
+pub mod Commit
 pub mod Law
+pub mod Causes
+pub mod Calls

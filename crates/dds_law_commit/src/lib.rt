@@ -1,4 +1,5 @@
-//! Why every run of one brick, one library and one caller stands in one legal history.
+//! What is proved of runs, law by law: of every run that two-phase commit is kept; of those of one brick, one library and one
+//! caller that they stand in one legal history.
 #![tactic(auto)]
 
 pub mod laws;

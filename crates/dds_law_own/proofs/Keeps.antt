@@ -56,7 +56,7 @@ own-notice z n at from s g f e =
     let silent = self-silent (n.channel at at) (no-self (view (n.node at)).stopped at) (g at at f.letter.receiver) in
     both_ways true (subst Silent first silent).0 refl
 
-of-another : (z : Sizes) (n : Net) (at from : ℕ) (l : Letter) (s : BrickState) → z.bricks ≤ 64 → z.libraries ≤ 16 → AreLinked z n
+pub of-another : (z : Sizes) (n : Net) (at from : ℕ) (l : Letter) (s : BrickState) → z.bricks ≤ 64 → z.libraries ≤ 16 → AreLinked z n
     → Takes z n at from l (a_brick s) → s.number ≡ at → IsOfAnother s from l
 of-another z n at from l s few some g f number =
     record {

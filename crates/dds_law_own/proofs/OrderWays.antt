@@ -35,7 +35,7 @@ abbrev pub having : BrickState → OpenOrder → Own
 having s o = own (order.going_on s o)
 
 -- the order is over
-closed-if : (s : BrickState) (o : OpenOrder) (c : Bool) → own (record (if c then s else orders.releasing s o.name s.number) { order = None })
+pub closed-if : (s : BrickState) (o : OpenOrder) (c : Bool) → own (record (if c then s else orders.releasing s o.name s.number) { order = None })
     ≡ record (own s) { order = None; leases = if c then s.locks.leases else released s.locks.leases o.name s.number }
 closed-if s o true = refl
 closed-if s o false = refl
@@ -43,7 +43,7 @@ closed-if s o false = refl
 pub ends : (s : BrickState) (o : OpenOrder) (reply : OrderReply) → Goes (having s o) (order.ends s o reply)
 ends s o reply = record { way = subst (Way (having s o)) (sym (closed-if s o (is_join o.task))) (one (closes o refl)) }
 
-served-if : (s : BrickState) (o : OpenOrder) (made : Leaf) (t : Task)
+pub served-if : (s : BrickState) (o : OpenOrder) (made : Leaf) (t : Task)
     → own (record (if is_join t then order.serving s o made t else orders.releasing (order.serving s o made t) o.name (order.serving s o made t).number)
     { order = None }) ≡ record (own s) {
       leaves = served s.leaves o made t;
@@ -173,7 +173,7 @@ granted_join : (s : BrickState) (o : OpenOrder) (from : NodeNo) (leaf : Leaf) (q
 granted_join s o from leaf None e j n h = fixing s o from leaf (record { none = e; join = j; name = n; apart = h })
 granted_join s o from leaf (Some fixed) e j n h = leases_on s o
 
-same-is : (x y : Name) → same_name x y ≡ true → x ≡ y
+pub same-is : (x y : Name) → same_name x y ≡ true → x ≡ y
 same-is x y e =
     let p = and_parts (x.bits == y.bits) (x.depth == y.depth) e in
     λ i. record { bits = eqb-true x.bits y.bits p.0 i; depth = eqb-true x.depth y.depth p.1 i }

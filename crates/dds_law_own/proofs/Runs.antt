@@ -59,7 +59,7 @@ start-brick o k h =
       record { leaves = opening-disjoint o.leaves (λ (l : Leaf). has l.list k) h.apart; order = tt },
     )
 
-start-own : (o : OpeningOf) (k : ℕ) (x : Node) → IsOpening o → IsNew o k x → NodeOk k x
+pub start-own : (o : OpeningOf) (k : ℕ) (x : Node) → IsOpening o → IsNew o k x → NodeOk k x
 start-own o k x h (no_node e) = subst (NodeOk k) (sym e) tt
 start-own o k x h (new_a_brick e) = subst (NodeOk k) (sym e) (start-brick o k h)
 start-own o k x h (new_a_library high e) = subst (NodeOk k) (sym e) tt

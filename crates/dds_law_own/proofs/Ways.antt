@@ -48,15 +48,15 @@ pub is-none : {X : Type 0} (x : Option X) → is_some x ≡ false → x ≡ None
 is-none None e = refl
 is-none (Some x) e = cc
 
-first-none : {X : Type 0} (x rest : Option X) → first_some x rest ≡ None → (x ≡ None) × (rest ≡ None)
+pub first-none : {X : Type 0} (x rest : Option X) → first_some x rest ≡ None → (x ≡ None) × (rest ≡ None)
 first-none None rest e = (refl, e)
 first-none (Some x) rest e = cc
 
-when-none : {X : Type 0} (c : Bool) (x : X) → when c x ≡ None → c ≡ false
+pub when-none : {X : Type 0} (c : Bool) (x : X) → when c x ≡ None → c ≡ false
 when-none true x e = cc
 when-none false x e = refl
 
-free-lease : (s : BrickState) (name : Name) (stamp : Option StampOf) → lease_refusal s name stamp ≡ None → IsFree (own s) name
+pub free-lease : (s : BrickState) (name : Name) (stamp : Option StampOf) → lease_refusal s name stamp ≡ None → IsFree (own s) name
 free-lease s name stamp e =
     let a = first-none (when (joins_over s.order name) refusal.Lease) _ e in
     let b = first-none (when (not (is_found stamp (get s.leaves name))) (refusal.Stale (leaf_for s.leaves name.bits))) _ a.1 in
@@ -75,7 +75,7 @@ covering : (leaf : Option Leaf) (name : Name) (stamp : StampOf) → stale_agains
 covering None name stamp e = cc
 covering (Some l) name stamp e = (l, refl)
 
-may-pend : (s : BrickState) (p : Pending) (name : Name) (stamp : StampOf) → update_denial s p.op name stamp ≡ None → MayPend (own s) p
+pub may-pend : (s : BrickState) (p : Pending) (name : Name) (stamp : StampOf) → update_denial s p.op name stamp ≡ None → MayPend (own s) p
 may-pend s p name stamp e =
     let key = the_key p.op in
     let denied = first-none (as_denial (update_refusal s key name stamp)) (when (has_no_room s p.op) denial.Full) e in
@@ -213,7 +213,7 @@ took-if : {x : Own} (c : Bool) (s u : BrickState) → (c ≡ true → Way x (own
 took-if true s u f w = f refl
 took-if false s u f w = w
 
-may-take : (s : BrickState) (mine leaf : Leaf) → own_leaf s.leaves leaf.name ≡ Some mine
+pub may-take : (s : BrickState) (mine leaf : Leaf) → own_leaf s.leaves leaf.name ≡ Some mine
     → may_take s.number mine leaf (has_node s.known) (takes.is_free s mine.name) ≡ true → MayTake (own s) mine leaf
 may-take s mine leaf there e =
     let known = has_node s.known in
@@ -240,7 +240,7 @@ known-if : (c : Bool) (s u : BrickState) → u.known ≡ s.known → (if c then 
 known-if true s u e = e
 known-if false s u e = refl
 
-take-known : (s : BrickState) (leaf : Leaf) (mine : Option Leaf) → (takes.take_over s leaf mine).known ≡ s.known
+pub take-known : (s : BrickState) (leaf : Leaf) (mine : Option Leaf) → (takes.take_over s leaf mine).known ≡ s.known
 take-known s leaf None = refl
 take-known s leaf (Some mine) =
     known-if (may_take s.number mine leaf (has_node s.known) (takes.is_free s mine.name)) s

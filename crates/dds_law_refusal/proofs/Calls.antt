@@ -94,7 +94,7 @@ denied-met : (o : OpeningOf) (journal : List Step) (txn : Txn) (caller : ℕ) (c
 denied-met o journal txn caller call brick why h =
     was-met o journal caller call brick why (inr (record { brick = brick; txn = txn; why = why; was = h.0; caller_is = h.1; call_is = h.2; met = refl }))
 
-meets : (o : OpeningOf) (journal : List Step) (n : Net) (at : ℕ) (old : LibraryState) (from to : NodeNo) (l : Letter) (c : OpenCall) (m : Met)
+pub meets : (o : OpeningOf) (journal : List Step) (n : Net) (at : ℕ) (old : LibraryState) (from to : NodeNo) (l : Letter) (c : OpenCall) (m : Met)
     → Hears o journal n at old from to l → Concerns l c → IsHeld old c → CallOk o journal c → Meets c from l m
     → WasMet o journal c.request.caller c.request.call m
 meets o journal n at old from to l c m h concerns held k (in_letter txn why is e) =

@@ -46,7 +46,7 @@ start-good o =
       letters = λ a b. subst (AllByRecursion (LetterOk o [] (net_of o []) a b)) (sym (start-channel o a b)) tt;
     }
 
-run-good : (o : OpeningOf) (journal : List Step) → o.bricks ≤ 64 → is_run o journal ≡ true → IsGood o journal (net_of o journal)
+pub run-good : (o : OpeningOf) (journal : List Step) → o.bricks ≤ 64 → is_run o journal ≡ true → IsGood o journal (net_of o journal)
 run-good o journal few r = journal-keeps o (IsGood o) journal few (good-kept o few) (start-good o) r
 
 on-way : (o : OpeningOf) (journal : List Step) (from to : NodeNo) (l : Letter) → IsGood o journal (net_of o journal)

@@ -5,5 +5,3 @@ pub mod leases;
 pub mod locks;
 pub mod outcomes;
 pub mod pending;
-#[cfg(test)]
-mod tests;

@@ -2,5 +2,3 @@
 #![tactic(auto)]
 
 pub mod maps;
-#[cfg(test)]
-mod tests;

@@ -29,7 +29,7 @@ use Rattle.dds_talk.specs.Resolve.{Agreed, Resolves, Saw, Side, Tell}
 use Rattle.dds_talk.specs.Resolve.Resolves.{answered}
 use Rattle.dds_talk.specs.Seen.{about, at_of, is_pending, one}
 use Rattle.dds_talk.specs.Table.{At}
-use Rattle.dds_talk.specs.Table.At.{C}
+use Rattle.dds_talk.specs.Table.At.{Committed}
 use Rattle.dds_outcomes.proofs.VerdictTurns.{NewsOk}
 use Rattle.dds_outcomes.proofs.Verdicts.{Fair}
 use Rattle.dds_outcomes.specs.Kept.{Holds, IsSpoken}
@@ -82,19 +82,19 @@ all-fair D list s (r ∷ rs) a h = (
 heard-at : {d q r : Bool} {v : Side} {o : List Tell} {a x : At} {xs : List At} → Resolves d v o q r a (x ∷ xs) → a ≡ x
 heard-at answered = refl
 
-commit-at : (st : TxnStatus) → is_commit st ≡ true → status_at st ≡ C
+commit-at : (st : TxnStatus) → is_commit st ≡ true → status_at st ≡ Committed
 commit-at txn_status.NotPrepared e = cc
 commit-at txn_status.Prepared e = cc
 commit-at txn_status.Committed e = refl
 commit-at txn_status.Aborted e = cc
 
-committed-at : (p : Bool) (g : Option Bool) → at_of p g ≡ C → g ≡ Some true
+committed-at : (p : Bool) (g : Option Bool) → at_of p g ≡ Committed → g ≡ Some true
 committed-at true g e = cc
 committed-at false None e = cc
 committed-at false (Some true) e = refl
 committed-at false (Some false) e = cc
 
-agreed-commit : (d : Bool) → Agreed d C → d ≡ true
+agreed-commit : (d : Bool) → Agreed d Committed → d ≡ true
 agreed-commit true h = refl
 agreed-commit false h = absurd h
 
@@ -102,20 +102,21 @@ status-decided : (z : Sizes) (n : Net) (b : Books) (at from : ℕ) (t : Txn) (st
     → Pair n b.list t at from s y → n.channel from at ≡ letter.Status t st ∷ others → is_commit st ≡ true → b.decided t ≡ true
 status-decided z n b at from t st s y others holds pair first commit = pick y.stopped refl
   where
-    front : about status_in t (n.channel from at) ≡ C ∷ about status_in t others
+    front : about status_in t (n.channel from at) ≡ Committed ∷ about status_in t others
     front = ap (about status_in t) first ∙ ap (λ k. one k (status_at st) ++ about status_in t others) (same-self t)
         ∙ ap (λ x. x ∷ about status_in t others) (commit-at st commit)
 
     pick : (c : Bool) → y.stopped ≡ c → b.decided t ≡ true
     pick false e =
         let k = holds.parts.resolve.alive t at from s y pair e in
-        let own : own_at y t ≡ C = heard-at (subst (λ xs. Resolves (b.decided t) (side s t from) (about tell_in t (n.channel at from) ++ []) k.put
+        let own : own_at y t ≡ Committed = heard-at (subst (λ xs. Resolves (b.decided t) (side s t from) (about tell_in t (n.channel at from) ++ []) k.put
         (is_ready y.known t (b.list t) at) (own_at y t) xs) front k.now) in
         let noted = committed-at (is_pending y.locks.pending t) (get y.locks.outcomes t) own in
         holds.commit.noted from t (sym ((holds.commit.note from y pair.member).agrees t) ∙ ap (λ g. first_some g (b.noted from t)) noted)
     pick true e =
         let lost = holds.parts.resolve.lost t at from s y pair e in
-        let is : lost.at ≡ C = heard-at (subst (λ xs. Resolves (b.decided t) (side s t from) lost.out lost.put lost.ready lost.at (xs ++ lost.cut)) front
+        let is : lost.at ≡ Committed = heard-at (subst (λ xs. Resolves (b.decided t) (side s t from) lost.out lost.put lost.ready lost.at (xs ++ lost.cut))
+        front
         lost.now) in
         agreed-commit (b.decided t) (subst (Agreed (b.decided t)) is lost.agreed)
 

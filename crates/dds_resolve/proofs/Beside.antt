@@ -39,17 +39,17 @@ use Rattle.dds_resolve.specs.Teams.{BrickIs, Teams, ground}
 
 -- what is used of the other parts of two-phase commit, at a brick that takes a letter
 pub record Beside (z : Sizes) (w : Net) (b : Books) (n from : ℕ) (s : BrickState) (l : Letter) : Type 0 where
-  -- NOTE, before and after: an attempt is pending once, and nothing is noted of it then
+  -- `note`, before and after: an attempt is pending once, and nothing is noted of it then
   pub once : Once s.locks.pending
   pub free : (t : Txn) → is_pending (live_brick_turn s from l).state.locks.pending t ≡ true → get (live_brick_turn s from l).state.locks.outcomes t ≡ None
-  -- CALLS: no node stands twice in a list
+  -- `calls`: no node stands twice in a list
   pub alone : (t : Txn) (known : NodeSet) → (ground z w b.list).frozen t ≡ true → Alone (unknown_others (b.list t) n known)
-  -- DECIDE and KEPT: live members of an attempt that is open at a stopped library fit what was decided
+  -- `decide` and `kept`: live members of an attempt that is open at a stopped library fit what was decided
   pub agree : (t : Txn) (m : ℕ) (y : BrickState) → w.node m ≡ a_brick y → y.stopped ≡ false → has (b.list t) m ≡ true → (ground z w b.list).frozen t ≡ true →
       Agreed (b.decided t) (own_at y t)
   pub settled : (t : Txn) → (ground z w b.list).frozen t ≡ true → has (b.list t) n ≡ true → Settling l →
       Agreed (b.decided t) (own_at (live_brick_turn s from l).state t)
-  -- NOTED, of attempts that the brick doesn't resolve
+  -- `noted`, of attempts that the brick doesn't resolve
   pub noted : (t : Txn) → NoTeam (ground z w b.list) t n → is_yes (get (live_brick_turn s from l).state.locks.outcomes t) ≡ true → b.decided t ≡ true
   -- the bound of prepares
   pub trims : (t : Txn) → (ground z w b.list).frozen t ≡ true → Untrimmed s t l

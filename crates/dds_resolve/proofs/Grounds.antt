@@ -29,7 +29,7 @@ use Rattle.dds_resolve.proofs.TeamTurns.{AllOk, not-both}
 use Rattle.dds_resolve.specs.Team.{Ground, Members, OpenIf, Team, Talks, LetterOk, PendingOk, AskedOk, DeferredOk, ResolvingOk, BrickOk}
 use Rattle.dds_resolve.specs.Teams.{BrickIs, NodeOk, ground, is_frozen, is_stopped}
 
--- Each event keeps RESOLVE 1.
+-- Each event keeps who resolves an attempt of a stopped library.
 
 -- a later ground
 pub record Within (g k : Ground) : Type 0 where

@@ -30,7 +30,7 @@ use Rattle.dds_talk.proofs.Parts.{get-other, get-this, is-same}
 use Rattle.dds_talk.specs.Seen.{noting}
 use Rattle.dds_resolve.proofs.CallRows.{Untrimmed}
 
--- KEPT, at a brick: a turn leaves what is noted of an attempt, or notes an outcome of it, where trimming spares it. So what stands
+-- `kept`, at a brick: a turn leaves what is noted of an attempt, or notes an outcome of it, where trimming spares it. So what stands
 -- there is what the books have of it.
 
 pub data Holds (s u : BrickState) (t : Txn) : Type 0 where

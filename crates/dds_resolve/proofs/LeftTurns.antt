@@ -15,7 +15,7 @@ use Rattle.dds_talk.specs.Books.{Books}
 use Rattle.dds_talk.specs.Resolve.{Agreed, Tell}
 use Rattle.dds_talk.specs.Resolve.Tell.{query, outcome}
 use Rattle.dds_talk.specs.Seen.{about, of}
-use Rattle.dds_talk.specs.Table.At.{C}
+use Rattle.dds_talk.specs.Table.At.{Committed}
 use Rattle.dds_resolve.proofs.Beside.{Case, now_decided, swap}
 use Rattle.dds_resolve.proofs.Deciders.{known-is, knowing, unready-idle, unready-own}
 use Rattle.dds_resolve.proofs.Here.{knows-earlier, knows-more, knows-still}
@@ -40,7 +40,7 @@ told-more : (d a b : Bool) (o : Tell) → (a ≡ true → b ≡ true) → ToldOk
 told-more d a b query f h = tt
 told-more d a b (outcome c) f h = (h.0, f h.1)
 
-pub agreed-commit : (d : Bool) → Agreed d C → d ≡ true
+pub agreed-commit : (d : Bool) → Agreed d Committed → d ≡ true
 agreed-commit true h = refl
 agreed-commit false h = absurd h
 
@@ -133,7 +133,7 @@ module _ {z : Sizes} {w v : Net} {b : Books} {n from : ℕ} {s : BrickState} {l 
   decides-ready t team h e = pick (is_ready (live_brick_turn s from l).state.known t (b.list t) n) refl (h.why e)
     where
       pick : (k : Bool) → is_ready (live_brick_turn s from l).state.known t (b.list t) n ≡ k →
-          (b.decided t ≡ true) ⊎ (own_at (live_brick_turn s from l).state t ≡ C) →
+          (b.decided t ≡ true) ⊎ (own_at (live_brick_turn s from l).state t ≡ Committed) →
           (b.decided t ≡ true) ⊎ (is_ready (live_brick_turn s from l).state.known t (b.list t) n ≡ true)
       pick true i h = inr i
       pick false i (inl d) = inl d

@@ -18,7 +18,7 @@ use Rattle.dds_states.specs.declared.brick_state.Deferred.{Deferred}
 use Rattle.dds_states.specs.declared.brick_state.Question.{Question}
 use Rattle.dds_states.specs.declared.brick_state.Question.TheVariants.{Help, Query}
 use Rattle.dds_talk.specs.Table.{At}
-use Rattle.dds_talk.specs.Table.At.{N, P, C, A}
+use Rattle.dds_talk.specs.Table.At.{Unprepared, Prepared, Committed, Aborted}
 use Rattle.dds_talk.specs.Seen.{of, one, about}
 use Rattle.dds_resolve.specs.Letters.{to_one}
 use Rattle.dds_resolve.proofs.Statuses.{as_status, status-at}
@@ -36,10 +36,10 @@ pub status-is : (s : BrickState) (t : Txn) → status_at (status s.locks t) ≡ 
 status-is s t = ap status_at (status-at s.locks (get s.locks.outcomes t) t refl) ∙ back (own_at s t)
   where
     back : (a : At) → status_at (as_status a) ≡ a
-    back N = refl
-    back P = refl
-    back C = refl
-    back A = refl
+    back Unprepared = refl
+    back Prepared = refl
+    back Committed = refl
+    back Aborted = refl
 
 abbrev pub put_if : Bool → Bool → At → List At
 put_if true asking a = []

@@ -21,7 +21,7 @@ use Rattle.dds_resolve.proofs.TeamTurns.{not-both}
 use Rattle.dds_resolve.specs.Resolving.{is_asking, own_at, status_in, tell_in, waits}
 use Rattle.dds_net.specs.Net.{Net}
 use Rattle.dds_talk.specs.Resolve.{Agreed}
-use Rattle.dds_talk.specs.Table.At.{N, C}
+use Rattle.dds_talk.specs.Table.At.{Unprepared, Committed}
 use Rattle.dds_brick_rows.specs.Resolution.{is_ready}
 use Rattle.dds_resolve.specs.Resolved.{Alive, LeftOver, Lost, ToldOk}
 use Rattle.dds_resolve.specs.Team.{Ground, Team, LetterOk, AskedOk, DeferredOk, ResolvingOk}
@@ -123,8 +123,8 @@ rests-alive w g d t list f m x y idle ok mate out back =
 
 -- how far a member might be
 abbrev calm : Bool → At
-calm true = C
-calm false = N
+calm true = Committed
+calm false = Unprepared
 
 calm-agreed : (d : Bool) → Agreed d (calm d)
 calm-agreed true = tt

@@ -13,7 +13,7 @@ use Rattle.dds_talk.specs.Resolve.Resolves.{rest, told, asked, put_off, answered
 use Rattle.dds_talk.specs.Resolve.Tell.{outcome}
 use Rattle.dds_talk.specs.Seen.{about, one}
 use Rattle.dds_talk.specs.Table.{At}
-use Rattle.dds_talk.specs.Table.At.{N, P, C, A}
+use Rattle.dds_talk.specs.Table.At.{Unprepared, Prepared, Committed, Aborted}
 use Rattle.dds_resolve.specs.Resolved.{LeftPair, Pair, Resolve, ToldOk}
 use Rattle.dds_resolve.specs.Resolving.{own_at, side, status_in, tell_in}
 
@@ -50,12 +50,12 @@ late-outcome n list decided t f m x y c others h p first =
     ∙ ap (λ b. one b (outcome c) ++ about tell_in t others) (same-self t) in
     (subst (AllByRecursion (ToldOk (decided t) (is_ready y.known t (list t) f))) front (h.left t f m x y p).told).0
 
-pub one-outcome : (d : Bool) → Agreed d C → Agreed d A → ⊥
+pub one-outcome : (d : Bool) → Agreed d Committed → Agreed d Aborted → ⊥
 one-outcome true h k = k
 one-outcome false h k = h
 
-pub commit-reached : (a : At) → Agreed true a → (a ≡ P) ⊎ (a ≡ C)
-commit-reached N h = absurd h
-commit-reached P h = inl refl
-commit-reached C h = inr refl
-commit-reached A h = absurd h
+pub commit-reached : (a : At) → Agreed true a → (a ≡ Prepared) ⊎ (a ≡ Committed)
+commit-reached Unprepared h = absurd h
+commit-reached Prepared h = inl refl
+commit-reached Committed h = inr refl
+commit-reached Aborted h = absurd h

@@ -20,7 +20,7 @@ use Rattle.dds_states.specs.declared.brick_state.BrickState.{BrickState}
 use Rattle.dds_states.specs.declared.brick_state.Resolving.{Resolving}
 use Rattle.dds_talk.proofs.Resolving as moves
 use Rattle.dds_talk.specs.Table.{At}
-use Rattle.dds_talk.specs.Table.At.{N, P, C, A}
+use Rattle.dds_talk.specs.Table.At.{Unprepared, Prepared, Committed, Aborted}
 use Rattle.dds_talk.specs.Resolve.{Agreed, Resolves, Saw, Tell}
 use Rattle.dds_talk.specs.Resolve.Side.{Rest, Wait, Heard}
 use Rattle.dds_talk.specs.Resolve.Tell.{query}
@@ -56,7 +56,7 @@ pub talking-same : {d : Bool} (z : Round) (x y : Option Resolving) (s u : BrickS
 talking-same {d = d} z x y s u sent e own number known h =
     record {
       grows = h.grows;
-      why = subst (λ k. d ≡ true → (z.before ≡ true) ⊎ (k ≡ C)) (sym own) h.why;
+      why = subst (λ k. d ≡ true → (z.before ≡ true) ⊎ (k ≡ Committed)) (sym own) h.why;
       all_ready = h.all_ready;
       each = λ m i. subst (λ k. Resolves d (side_of k m) (z.to m ++ about tell_in z.txn (letters_to m sent)) (z.put_off m) (z.ready m) (z.at m) (z.back m)) e
           (h.each m i);
@@ -205,10 +205,10 @@ same-no txn_status.Committed = refl
 same-no txn_status.Aborted = refl
 
 saw-more : (c n x y : Bool) (a : At) → Saw c n a → Saw (c || x) (n || y) a
-saw-more c n x y N h = rw h refl
-saw-more c n x y P h = tt
-saw-more c n x y C h = rw h refl
-saw-more c n x y A h = rw h refl
+saw-more c n x y Unprepared h = rw h refl
+saw-more c n x y Prepared h = tt
+saw-more c n x y Committed h = rw h refl
+saw-more c n x y Aborted h = rw h refl
 
 either-shown : (c x : Bool) (holds : Type 0) → (c ≡ true → holds) → (x ≡ true → holds) → (c || x) ≡ true → holds
 either-shown true x holds f g e = f refl

@@ -20,7 +20,7 @@ use Rattle.dds_talk.specs.Books.{is_yes}
 use Rattle.dds_talk.specs.Resolve.{Agreed, Resolves}
 use Rattle.dds_talk.specs.Seen.{about, at_of}
 use Rattle.dds_talk.specs.Table.{At}
-use Rattle.dds_talk.specs.Table.At.{C}
+use Rattle.dds_talk.specs.Table.At.{Committed}
 use Rattle.dds_resolve.proofs.TeamTurns.{not-both}
 use Rattle.dds_resolve.proofs.Hearing.{hearing}
 use Rattle.dds_resolve.proofs.Seats.{Seated, absent, living, lost, is_seated, seat-agreed, seat-now, seat_of}
@@ -142,7 +142,7 @@ lost-after w v d t list n m s y r e (lost u i k c) is stops there agreed h =
 pub record Going (w v : Net) (list : Txn → List ℕ) (t : Txn) (n : ℕ) (s : BrickState) (r : BrickTurn) (d : Bool) : Type 0 where
   pub decided : Bool
   pub grows : d ≡ true → decided ≡ true
-  pub why : decided ≡ true → (d ≡ true) ⊎ (own_at r.state t ≡ C)
+  pub why : decided ≡ true → (d ≡ true) ⊎ (own_at r.state t ≡ Committed)
   pub all_ready : decided ≡ true → (d ≡ true)
       ⊎ ((m : ℕ) (y : BrickState) → Pair w list t n m s y → has_node r.state.known m ≡ false → y.stopped ≡ false → is_ready y.known t (list t) n ≡ true)
   pub alive : (m : ℕ) (y : BrickState) → Pair w list t n m s y → has_node r.state.known m ≡ false → y.stopped ≡ false → Alive v decided t (list t) n m r.state y
@@ -167,7 +167,7 @@ mate-ready b y (lost u i k c) is lives there h = let uy : u ≡ y = brick-same u
 mate-ready {t = t} {list = list} {n = n} b y (living u i k a c) is lives there h =
     let uy : u ≡ y = brick-same u y (sym i ∙ is) in subst (λ (x : BrickState). is_ready x.known t list n ≡ true) uy h
 
-or-right : {A B C : Type 0} → (B → C) → A ⊎ B → A ⊎ C
+or-right : {A B D : Type 0} → (B → D) → A ⊎ B → A ⊎ D
 or-right f (inl a) = inl a
 or-right f (inr b) = inr (f b)
 
@@ -202,24 +202,24 @@ going w v list d t n from s l rest r known q there knows step e h =
     swap a b e = grind (arith, nat_tests, e)
 
 -- what was decided by then is what the books say: what was decided before, or what the resolver noted
-is-committed : (p : Bool) (o : Option Bool) → at_of p o ≡ C → is_yes o ≡ true
+is-committed : (p : Bool) (o : Option Bool) → at_of p o ≡ Committed → is_yes o ≡ true
 is-committed true o e = cc
 is-committed false None e = cc
 is-committed false (Some true) e = refl
 is-committed false (Some false) e = cc
 
-commits : (p : Bool) (o : Option Bool) → (p ≡ true → o ≡ None) → is_yes o ≡ true → at_of p o ≡ C
+commits : (p : Bool) (o : Option Bool) → (p ≡ true → o ≡ None) → is_yes o ≡ true → at_of p o ≡ Committed
 commits true o f e = let q : false ≡ true = ap is_yes (sym (f refl)) ∙ e in cc
 commits false None f e = cc
 commits false (Some true) f e = refl
 commits false (Some false) f e = cc
 
-pub decided-is : (d e : Bool) (p : Bool) (o : Option Bool) → (p ≡ true → o ≡ None) → (d ≡ true → e ≡ true) → (e ≡ true → (d ≡ true) ⊎ (at_of p o ≡ C)) →
+pub decided-is : (d e : Bool) (p : Bool) (o : Option Bool) → (p ≡ true → o ≡ None) → (d ≡ true → e ≡ true) → (e ≡ true → (d ≡ true) ⊎ (at_of p o ≡ Committed)) →
     Agreed e (at_of p o) → e ≡ (d || is_yes o)
 decided-is true e p o free grows why own = grows refl
 decided-is false true p o free grows why own = pick (why refl)
   where
-    pick : (false ≡ true) ⊎ (at_of p o ≡ C) → true ≡ (false || is_yes o)
+    pick : (false ≡ true) ⊎ (at_of p o ≡ Committed) → true ≡ (false || is_yes o)
     pick (inl k) = cc
     pick (inr k) = sym (is-committed p o k)
 decided-is false false p o free grows why own = pick (is_yes o) refl

@@ -17,7 +17,7 @@ use Rattle.dds_states.specs.declared.brick_state.BrickState.{BrickState}
 use Rattle.dds_states.specs.declared.brick_state.Resolving.{Resolving}
 use Rattle.dds_talk.proofs.Resolving as moves
 use Rattle.dds_talk.specs.Table.{At}
-use Rattle.dds_talk.specs.Table.At.{N, P, C, A}
+use Rattle.dds_talk.specs.Table.At.{Unprepared, Prepared, Committed, Aborted}
 use Rattle.dds_talk.specs.Resolve.{Agreed, Resolves, Saw, Tell}
 use Rattle.dds_talk.specs.Resolve.Resolves.{heard}
 use Rattle.dds_talk.specs.Resolve.Side.{Rest, Heard}
@@ -50,18 +50,18 @@ verdict_of c n = c || not n
 
 own-agreed : (c n : Bool) (d : Bool) (a : At) → (c ≡ true → d ≡ true) → (n ≡ true → d ≡ false) → Saw c n a → Agreed (verdict_of c n) a
 own-agreed true true d a f g h = let q = sym (f refl) ∙ g refl in cc
-own-agreed true false d N f g h = cc
-own-agreed true false d P f g h = tt
-own-agreed true false d C f g h = tt
-own-agreed true false d A f g h = cc
-own-agreed false true d N f g h = tt
-own-agreed false true d P f g h = tt
-own-agreed false true d C f g h = cc
-own-agreed false true d A f g h = tt
-own-agreed false false d N f g h = cc
-own-agreed false false d P f g h = tt
-own-agreed false false d C f g h = cc
-own-agreed false false d A f g h = cc
+own-agreed true false d Unprepared f g h = cc
+own-agreed true false d Prepared f g h = tt
+own-agreed true false d Committed f g h = tt
+own-agreed true false d Aborted f g h = cc
+own-agreed false true d Unprepared f g h = tt
+own-agreed false true d Prepared f g h = tt
+own-agreed false true d Committed f g h = cc
+own-agreed false true d Aborted f g h = tt
+own-agreed false false d Unprepared f g h = cc
+own-agreed false false d Prepared f g h = tt
+own-agreed false false d Committed f g h = cc
+own-agreed false false d Aborted f g h = cc
 
 saw-of : {d q r c n : Bool} {o : List Tell} {a : At} {b : List At} → Resolves d (Heard c n) o q r a b → Saw c n a
 saw-of (heard h) = h
@@ -93,7 +93,7 @@ pub talking-aside : {d : Bool} (z : Round) (x : Option Resolving) (s : BrickStat
 talking-aside {d = d} z x s r sent a h =
     record {
       grows = h.grows;
-      why = subst (λ k. d ≡ true → (z.before ≡ true) ⊎ (k ≡ C)) (sym a.own) h.why;
+      why = subst (λ k. d ≡ true → (z.before ≡ true) ⊎ (k ≡ Committed)) (sym a.own) h.why;
       all_ready = h.all_ready;
       each = λ m e. subst (λ ys. Resolves d (side_of x m) (z.to m ++ ys) (z.put_off m) (z.ready m) (z.at m) (z.back m))
           (sym (about-sent tell_in z.txn m sent r.out.letters ∙ ap (λ ys. about tell_in z.txn (letters_to m sent) ++ ys) (a.silent m)
@@ -130,11 +130,11 @@ heard-side : (r : Resolving) (m : ℕ) → is_none_left r.waiting ≡ true → s
 heard-side r m e = let k = none-has r.waiting m e in rw k refl
 
 -- what was pending or committed is committed then
-committed : (a : At) → Agreed true a → moves.settled true a ≡ C
-committed N h = absurd h
-committed P h = refl
-committed C h = refl
-committed A h = absurd h
+committed : (a : At) → Agreed true a → moves.settled true a ≡ Committed
+committed Unprepared h = absurd h
+committed Prepared h = refl
+committed Committed h = refl
+committed Aborted h = absurd h
 
 pub same-nodes : (a b : List ℕ) (i j : ℕ) (k l : NodeSet) → a ≡ b → i ≡ j → k ≡ l → unknown_others a i k ≡ unknown_others b j l
 same-nodes a b i j k l p q r = ap (λ x. unknown_others x i k) p ∙ ap (λ x. unknown_others b x k) q ∙ ap (λ x. unknown_others b j x) r

@@ -10,7 +10,7 @@ use Rattle.dds_states.specs.declared.brick_state.BrickState.{BrickState}
 use Rattle.dds_talk.specs.Resolve.{Agreed, Resolves, Tell}
 use Rattle.dds_talk.specs.Seen.{about}
 use Rattle.dds_talk.specs.Table.{At}
-use Rattle.dds_talk.specs.Table.At.{N}
+use Rattle.dds_talk.specs.Table.At.{Unprepared}
 use Rattle.dds_resolve.specs.Resolved.{Alive, Lost, Pair, Resolve}
 use Rattle.dds_resolve.specs.Resolving.{own_at, side, status_in, tell_in}
 
@@ -35,7 +35,7 @@ is_seated (lost y e l c) = true
 
 -- with the statuses that are on their way back
 abbrev pub seat_of : {w : Net} {d : Bool} {t : Txn} {list : List ℕ} {n m : ℕ} {s : BrickState} → List At → Seated w d t list n m s → Seat
-seat_of b absent = record { to = []; put_off = false; ready = false; at = N; back = b }
+seat_of b absent = record { to = []; put_off = false; ready = false; at = Unprepared; back = b }
 seat_of {w = w} {t = t} {list = list} {n = n} {m = m} b (living y e l a c) =
     record { to = about tell_in t (w.channel n m); put_off = c.put; ready = is_ready y.known t list n; at = own_at y t; back = b }
 seat_of b (lost y e l c) = record { to = c.out; put_off = c.put; ready = c.ready; at = c.at; back = b ++ c.cut }

@@ -5,21 +5,21 @@ use Rattle.std.specs.FinMap.{get}
 use Rattle.dds_base.specs.Number.{Txn, same_txn}
 use Rattle.dds_base.specs.declared.pending.Pending.{Pending}
 use Rattle.dds_base.specs.declared.pending.TxnStatus.{TxnStatus}
-use Rattle.dds_base.specs.declared.pending.TxnStatus.TheVariants.{NotPrepared, Prepared, Committed, Aborted}
+use Rattle.dds_base.specs.declared.pending.TxnStatus.TheVariants as told
 use Rattle.dds_locks.specs.Pending.{first_of, times}
 use Rattle.dds_locks.specs.State.{LockState}
 use Rattle.dds_locks.specs.Status.{noted_status, status}
 use Rattle.dds_talk.specs.Seen.{at, at_of, is_pending}
 use Rattle.dds_talk.specs.Table.{At}
-use Rattle.dds_talk.specs.Table.At.{N, P, C, A}
+use Rattle.dds_talk.specs.Table.At.{Unprepared, Prepared, Committed, Aborted}
 
 -- What a brick tells of an attempt is how far it is there, where its outcome wasn't trimmed.
 
 abbrev pub as_status : At → TxnStatus
-as_status N = NotPrepared
-as_status P = Prepared
-as_status C = Committed
-as_status A = Aborted
+as_status Unprepared = told.NotPrepared
+as_status Prepared = told.Prepared
+as_status Committed = told.Committed
+as_status Aborted = told.Aborted
 
 more-times : (n : ℕ) → nat_lt 0 (n + 1) ≡ true
 more-times n = grind (arith, nat_tests)
@@ -30,7 +30,7 @@ times-pending (p ∷ ps) t =
     elim (same_txn p.txn t) as (λ b. nat_lt 0 (cond b (times ps t + 1) (times ps t)) ≡ is_some (cond b (Some p) (first_of ps t)))
     [ true ↦ more-times (times ps t) | false ↦ times-pending ps t ]
 
-status-of : (b : Bool) (n : Option Bool) → cond b Prepared (noted_status n) ≡ as_status (at_of b n)
+status-of : (b : Bool) (n : Option Bool) → cond b told.Prepared (noted_status n) ≡ as_status (at_of b n)
 status-of true n = refl
 status-of false None = refl
 status-of false (Some true) = refl

@@ -32,7 +32,7 @@ use Rattle.dds_resolve.specs.Teams.{BrickIs, NodeOk, OpensOf, SaysOf, Teams, gro
 use Rattle.dds_resolve.proofs.Grounds.{Within, letter-more, brick-more, node-more, all-more, told-same, gains-ok, rest-ok, begins, ends}
 use Rattle.dds_resolve.proofs.Grounds.{within, put-stays, live-stays}
 
--- Each event keeps RESOLVE 1.
+-- Each event keeps who resolves an attempt of a stopped library.
 
 -- a node takes a letter
 takes-teams : (z : Sizes) (n : Net) (at from : ℕ) (y : Node) (ls : List (NodeNo × Letter)) (b c : Txn → List ℕ) → z.bricks ≤ 64 →

@@ -31,7 +31,7 @@ use Rattle.dds_resolve.specs.Team.{Ground, OpenIf, OpenOk, Members, Team, Letter
 use Rattle.dds_resolve.proofs.TeamTurns.{AllOk, Good, good-still, good-sends, good-then, good-if, dropped-ok, outcome-good, resolve-good}
 use Rattle.dds_resolve.proofs.TeamTurns.{help-good, query-good, hear-good, all-asked-good}
 
--- The rest of a brick's turn keeps RESOLVE 1: a notice, the rows of calls and of orders.
+-- The rest of a brick's turn keeps who resolves an attempt: a notice, the rows of calls and of orders.
 
 -- all before the first unknown one are known
 pub first-unknown : (list : List ℕ) (known : ℕ → Bool) (f : ℕ) (fs : List ℕ) → live list known ≡ f ∷ fs →

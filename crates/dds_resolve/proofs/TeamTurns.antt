@@ -30,7 +30,7 @@ use Rattle.dds_states.specs.declared.brick_state.Resolving.{Resolving}
 use Rattle.dds_talk.proofs.Letters.{has-without}
 use Rattle.dds_resolve.specs.Team.{Ground, Team, LetterOk, PendingOk, AskedOk, DeferredOk, ResolvingOk, BrickOk}
 
--- A brick's turn keeps RESOLVE 1, over one ground.
+-- A brick's turn keeps who resolves an attempt of a stopped library, over one ground.
 
 abbrev pub AllOk : Ground → ℕ → List (NodeNo × Letter) → Type 0
 AllOk g at ls = AllByRecursion (λ (p : NodeNo × Letter). LetterOk g at p.0 p.1) ls

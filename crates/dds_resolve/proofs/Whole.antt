@@ -31,10 +31,10 @@ use Rattle.dds_resolve.specs.Teams.{OpensOf, SaysOf, Teams, ground, is_stopped}
 
 -- The parts on resolving are kept by each event, where the other parts of two-phase commit give what is used of them.
 
--- | part      | what it says                                                              |
--- | `teams`   | who asks, tells and resolves is the attempt's one resolver (RESOLVE 1)    |
--- | `ready`   | a brick resolves an attempt once, and only where it is ready (RESOLVE 2)  |
--- | `resolve` | the resolver's conversations (RESOLVE 2 to 5, TOKEN, AGAIN)               |
+-- | part      | what it says                                                 |
+-- | `teams`   | who asks, tells and resolves is the attempt's one resolver   |
+-- | `ready`   | a brick resolves an attempt once, and only where it is ready |
+-- | `resolve` | the resolver's conversations                                 |
 pub record Parts (z : Sizes) (n : Net) (b : Books) : Type 0 where
   pub teams : Teams z n b.list
   pub ready : AreReady n

@@ -1,4 +1,4 @@
--- A resolver's conversations about one attempt, all together: RESOLVE 2 to 5, TOKEN, AGAIN, and DECIDE at the live members.
+-- A resolver's conversations about one attempt, all together, and that the live members fit what was decided.
 use Rattle.std.specs.Prelude.{ℕ, ◌≡◌, ◌⊎◌, ◌++◌, Bool, true, false, List, Option, Some, None}
 use Rattle.dds_base.specs.BrickList.{has}
 use Rattle.dds_base.specs.Number.{Txn}
@@ -9,7 +9,7 @@ use Rattle.dds_states.specs.Turn.{unknown_others}
 use Rattle.dds_states.specs.declared.brick_state.BrickState.{BrickState}
 use Rattle.dds_states.specs.declared.brick_state.Resolving.{Resolving}
 use Rattle.dds_talk.specs.Table.{At}
-use Rattle.dds_talk.specs.Table.At.{C}
+use Rattle.dds_talk.specs.Table.At.{Committed}
 use Rattle.dds_talk.specs.Resolve.{Agreed, Resolves, Saw, Tell}
 use Rattle.dds_talk.specs.Seen.{Alone, about}
 use Rattle.dds_resolve.specs.Letters.{letters_to}
@@ -36,7 +36,7 @@ pub record RoundOk (z : Round) : Type 0 where
   pub alone : Alone (unknown_others z.list z.me z.known)
   pub live : (m : ℕ) → z.live m ≡ true → has (unknown_others z.list z.me z.known) m ≡ true
 
--- RESOLVE 2, and 3 of the resolver itself
+-- what the resolver saw fits what was decided, and its own state
 pub record SawOk (d : Bool) (members : List ℕ) (a : At) (r : Resolving) : Type 0 where
   pub list : r.list ≡ members
   pub commit : r.saw_commit ≡ true → d ≡ true
@@ -51,7 +51,7 @@ SeenOk d list a (Some r) = SawOk d list a r
 -- commit that is decided in this turn is one that the resolver notes itself, where each live member is ready.
 pub record Talking (z : Round) (d : Bool) (x : Option Resolving) (s : BrickState) (sent : List (NodeNo × Letter)) : Type 0 where
   pub grows : z.before ≡ true → d ≡ true
-  pub why : d ≡ true → (z.before ≡ true) ⊎ (own_at s z.txn ≡ C)
+  pub why : d ≡ true → (z.before ≡ true) ⊎ (own_at s z.txn ≡ Committed)
   pub all_ready : d ≡ true → (z.before ≡ true) ⊎ ((m : ℕ) → z.live m ≡ true → z.ready m ≡ true)
   pub each : (m : ℕ) → z.live m ≡ true → Resolves d (side_of x m) (z.to m ++ about tell_in z.txn (letters_to m sent)) (z.put_off m) (z.ready m) (z.at m)
       (z.back m)

@@ -14,7 +14,7 @@ use Rattle.dds_states.specs.declared.brick_state.Question.{Question}
 use Rattle.dds_states.specs.declared.brick_state.Question.TheVariants.{Help, Query}
 use Rattle.dds_states.specs.declared.brick_state.Resolving.{Resolving}
 use Rattle.dds_talk.specs.Table.{At}
-use Rattle.dds_talk.specs.Table.At.{N, P, C, A}
+use Rattle.dds_talk.specs.Table.At.{Unprepared, Prepared, Committed, Aborted}
 use Rattle.dds_talk.specs.Resolve.{Side, Tell}
 use Rattle.dds_talk.specs.Resolve.Side.{Rest, Wait, Heard}
 use Rattle.dds_talk.specs.Resolve.Tell.{query, outcome}
@@ -27,10 +27,10 @@ tell_in (letter.Outcome txn commit) = Some (txn, outcome commit)
 tell_in other = None
 
 abbrev pub status_at : TxnStatus → At
-status_at txn_status.NotPrepared = N
-status_at txn_status.Prepared = P
-status_at txn_status.Committed = C
-status_at txn_status.Aborted = A
+status_at txn_status.NotPrepared = Unprepared
+status_at txn_status.Prepared = Prepared
+status_at txn_status.Committed = Committed
+status_at txn_status.Aborted = Aborted
 
 abbrev pub status_in : Letter → Option (Txn × At)
 status_in (letter.Status txn status) = Some (txn, status_at status)

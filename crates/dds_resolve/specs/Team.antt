@@ -1,4 +1,4 @@
--- Who resolves an attempt of a stopped library, and who is asked and told: RESOLVE 1.
+-- Who resolves an attempt of a stopped library, and who is asked and told.
 use Rattle.std.specs.Prelude.{ℕ, ◌≡◌, ◌==◌, Bool, true, false, List}
 use Rattle.std.specs.List.{AllByRecursion}
 use Rattle.dds_base.specs.BrickList.{has}

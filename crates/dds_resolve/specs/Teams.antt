@@ -1,4 +1,4 @@
--- RESOLVE 1, of the nodes and channels of a cluster, and of the members that attempts have.
+-- Who resolves an attempt, by the nodes and channels of a cluster and the members that attempts have.
 use Rattle.std.specs.Prelude.{ℕ, ◌≡◌, ◌&&◌, Bool, true, false, List}
 use Rattle.std.specs.List.{AllByRecursion}
 use Rattle.dds_base.specs.NodeSet.{has_node}

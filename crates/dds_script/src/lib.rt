@@ -20,7 +20,5 @@ pub mod reader;
 pub mod script_error;
 mod take_line;
 mod take_opening;
-#[cfg(test)]
-mod tests;
 pub mod value_word;
 pub mod words;

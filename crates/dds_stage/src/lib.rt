@@ -4,5 +4,3 @@
 pub mod pump;
 pub mod queue;
 pub mod stage;
-#[cfg(test)]
-mod tests;

@@ -34,7 +34,7 @@ use Rattle.dds_talk.proofs.Moves.Takes.{begins, skips}
 use Rattle.dds_talk.proofs.Parts.{same-self}
 use Rattle.dds_talk.specs.Seen.{IsGroup, asked, asks, members_of, one, phase_view}
 use Rattle.dds_talk.specs.Table.Ask.{prepare}
-use Rattle.dds_talk.specs.Table.View.{New, Pw, Pv, Off}
+use Rattle.dds_talk.specs.Table.View.{New, VoteDue, VoteHeard, Off}
 
 -- An attempt begins, or the call is answered.
 
@@ -79,7 +79,7 @@ begun-if z n false t u h g = g
 pub ask-begun : (z : Sizes) (d : Desk) (r : Request) (m : Met) → Begun z d.numbers (library.ask d r m)
 ask-begun z d r m = begun-if z d.numbers (r.retries == 3) _ _ (answers z d (reply.Again m)) (asks-begun z d r m (library.live_bricks d))
 
-opens-view : (b : Bool) → Takes New [] (if b then (if b then Pw else Pv) else Off) (one b prepare)
+opens-view : (b : Bool) → Takes New [] (if b then (if b then VoteDue else VoteHeard) else Off) (one b prepare)
 opens-view true = begins
 opens-view false = skips
 
@@ -93,7 +93,7 @@ update-begun z few d r leaf ns =
       opened = (
         refl,
         refl,
-        λ g m h. subst (Takes New [] (if has ns m then (if has ns m then Pw else Pv) else Off))
+        λ g m h. subst (Takes New [] (if has ns m then (if has ns m then VoteDue else VoteHeard) else Off))
             (sym (about-each asked (library.next_txn d) z l prepare ns m few h g (ap (λ b. one b prepare) (same-self (library.next_txn d))))) (opens-view
             (has ns m)),
       );

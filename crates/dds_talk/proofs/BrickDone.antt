@@ -20,15 +20,15 @@ use Rattle.dds_talk.proofs.Changes.{Turned, put-here, put-other}
 use Rattle.dds_talk.proofs.Locks.{Holds, Locks, at-none, holds-kept, locks-ok}
 use Rattle.dds_talk.proofs.Turns.{found-is, new-le}
 use Rattle.dds_talk.specs.Books.{Books, is_yes, with_brick}
-use Rattle.dds_talk.specs.Parts.{BrickOk, CALLS, Commit, Conversation, DECIDE, Decided, IsSure, KEPT, LibraryOk, NOTE, NOTED, TALK}
+use Rattle.dds_talk.specs.Parts.{BrickOk, AllCall, Commit, Conversation, AllDecide, Decided, IsSure, AllKeep, LibraryOk, AllNote, NotedAsDecided, AllTalk}
 use Rattle.dds_talk.specs.Seen.{call_of, call_view, commits_now, is_open, noting, phase_view, view}
 use Rattle.dds_talk.specs.Table.{View, Ask, Say, At, Talk, Talks, IsTalk, Known}
 use Rattle.dds_talk.specs.Table.Ask.{commit}
-use Rattle.dds_talk.specs.Table.At.{N}
+use Rattle.dds_talk.specs.Table.At.{Unprepared}
 use Rattle.dds_talk.specs.Table.IsTalk.{unknowing, knowing}
 use Rattle.dds_talk.specs.Table.Talk.{told_commit, unmade}
 use Rattle.dds_talk.specs.Table.Talks.{live, left}
-use Rattle.dds_talk.specs.Table.View.{New, Pw, Pv, Cw, Aw, Aa, Off}
+use Rattle.dds_talk.specs.Table.View.{New, VoteDue, VoteHeard, CommitDue, AbortDue, AbortHeard, Off}
 
 -- What a brick's turn owes, so that all parts are kept; and that they are.
 
@@ -42,53 +42,54 @@ pub record BrickDone (z : Sizes) (w v : Net) (n : ℕ) (s u : BrickState) (ls : 
   pub fresh : (t : Txn) → get u.locks.outcomes t ≡ Some true
       → (b.decided t ≡ true) ⊎ ((m : ℕ) (l : LibraryState) (x : BrickState) → Decided v (with_brick n u b) t m l x → IsSure v (with_brick n u b) t m l x)
   pub once : (t : Txn) (c : Bool) → get u.locks.outcomes t ≡ Some c → (b.noted n t ≡ None) ⊎ (b.noted n t ≡ Some c)
-  pub undecided : TALK v (with_brick n u b) → (k : ℕ) (l : LibraryState) (t : Txn) → w.node k ≡ a_library l → t.library ≡ k → l.next ≤ t.number
+  pub undecided : AllTalk v (with_brick n u b) → (k : ℕ) (l : LibraryState) (t : Txn) → w.node k ≡ a_library l → t.library ≡ k → l.next ≤ t.number
       → b.decided t ≡ false → is_yes (get u.locks.outcomes t) ≡ false
 
 -- a call that a library commits was decided
 
-two-views : (w : Bool) (v u : View) → v ≢ Cw → u ≢ Cw → (if w then v else u) ≢ Cw
+two-views : (w : Bool) (v u : View) → v ≢ CommitDue → u ≢ CommitDue → (if w then v else u) ≢ CommitDue
 two-views true v u a b e = a e
 two-views false v u a b e = b e
 
-phase-cw : (m : ℕ) (p : Phase) → phase_view m p ≡ Cw → commits_now p ≡ true
+phase-cw : (m : ℕ) (p : Phase) → phase_view m p ≡ CommitDue → commits_now p ≡ true
 phase-cw m (Committing leaf list waiting was) e = refl
 phase-cw m (Getting leaf brick) e = cc
-phase-cw m (Preparing leaf list waiting) e = absurd (two-views (has waiting m) Pw Pv (λ q. cc) (λ q. cc) e)
-phase-cw m (Aborting waiting why brick) e = absurd (two-views (has waiting m) Aw Aa (λ q. cc) (λ q. cc) e)
+phase-cw m (Preparing leaf list waiting) e = absurd (two-views (has waiting m) VoteDue VoteHeard (λ q. cc) (λ q. cc) e)
+phase-cw m (Aborting waiting why brick) e = absurd (two-views (has waiting m) AbortDue AbortHeard (λ q. cc) (λ q. cc) e)
 phase-cw m (Asking waiting newest met) e = cc
 
 cw-if : (z : Sizes) (b : Books) (k : ℕ) (l : LibraryState) (t : Txn) (m : ℕ) (x h : Bool) (o : Option OpenCall) → LibraryOk z b k l → call_of l.calls t ≡ o
-    → (if x then New else (if h then call_view m o else Off)) ≡ Cw → b.decided t ≡ true
+    → (if x then New else (if h then call_view m o else Off)) ≡ CommitDue → b.decided t ≡ true
 cw-if z b k l t m true h o ok e q = cc
 cw-if z b k l t m false false o ok e q = cc
 cw-if z b k l t m false true None ok e q = cc
 cw-if z b k l t m false true (Some c) ok e q =
     ap b.decided (sym (found-is l.calls t c e)) ∙ (ok.calls t c e).decided (phase-cw m c.phase q)
 
-pub cw-decided : (z : Sizes) (b : Books) (k : ℕ) (l : LibraryState) (t : Txn) (m : ℕ) → LibraryOk z b k l → view l (b.list t) t m ≡ Cw → b.decided t ≡ true
+pub cw-decided : (z : Sizes) (b : Books) (k : ℕ) (l : LibraryState) (t : Txn) (m : ℕ) → LibraryOk z b k l → view l (b.list t) t m ≡ CommitDue → b.decided t
+    ≡ true
 cw-decided z b k l t m ok e = cw-if z b k l t m (nat_le l.next t.number) (has (b.list t) m) (call_of l.calls t) ok refl e
 
-commit-line : {v : View} {o : List Ask} {a : At} {b : List Say} → Talk v (commit ∷ o) a b → v ≡ Cw
+commit-line : {v : View} {o : List Ask} {a : At} {b : List Say} → Talk v (commit ∷ o) a b → v ≡ CommitDue
 commit-line told_commit = refl
 
-commit-lines : {ll : Bool} {v : View} {o : List Ask} {a : At} {b : List Say} → Talks ll true v (commit ∷ o) a b → v ≡ Cw
+commit-lines : {ll : Bool} {v : View} {o : List Ask} {a : At} {b : List Say} → Talks ll true v (commit ∷ o) a b → v ≡ CommitDue
 commit-lines (live h) = commit-line h
 commit-lines (left cut h) = commit-line h
 
-pub commit-cw : {ll k : Bool} {v : View} {p o : List Ask} {a : At} {b : List Say} → p ≡ commit ∷ o → IsTalk ll true k v p a b → v ≡ Cw
+pub commit-cw : {ll k : Bool} {v : View} {p o : List Ask} {a : At} {b : List Say} → p ≡ commit ∷ o → IsTalk ll true k v p a b → v ≡ CommitDue
 commit-cw {ll = ll} {v = v} {a = a} {b = b} e (unknowing h) = commit-lines (subst (λ p. Talks ll true v p a b) e h)
 commit-cw e (knowing h) = cc
 
 -- an attempt that isn't made yet isn't prepared
-new-talk : {o : List Ask} {a : At} {b : List Say} → Talk New o a b → a ≡ N
+new-talk : {o : List Ask} {a : At} {b : List Say} → Talk New o a b → a ≡ Unprepared
 new-talk unmade = refl
 
-new-talks : {ll : Bool} {o : List Ask} {a : At} {b : List Say} → Talks ll true New o a b → a ≡ N
+new-talks : {ll : Bool} {o : List Ask} {a : At} {b : List Say} → Talks ll true New o a b → a ≡ Unprepared
 new-talks (live h) = new-talk h
 new-talks (left cut h) = new-talk h
 
-pub new-is : {ll k : Bool} {v : View} {o : List Ask} {a : At} {b : List Say} → v ≡ New → IsTalk ll true k v o a b → a ≡ N
+pub new-is : {ll k : Bool} {v : View} {o : List Ask} {a : At} {b : List Say} → v ≡ New → IsTalk ll true k v o a b → a ≡ Unprepared
 new-is {ll = ll} {o = o} {a = a} {b = b} e (unknowing h) = new-talks (subst (λ v. Talks ll true v o a b) e h)
 new-is {a = a} e (knowing h) = subst (λ v. Known v a) e h
 
@@ -105,7 +106,7 @@ module _ (z : Sizes) (w v : Net) (n : ℕ) (s u : BrickState) (ls : List (NodeNo
       no : v.node n ≡ a_library l → v.node n ≡ a_brick u → ⊥
       no e f = let q : a_library l ≡ a_brick u = sym e ∙ f in cc
 
-  done-talks : BrickDone z w v n s u ls b → TALK w b → TALK v (with_brick n u b)
+  done-talks : BrickDone z w v n s u ls b → AllTalk w b → AllTalk v (with_brick n u b)
   done-talks h talk = brick-talks z w v n s u ls b h.step talk h.talks
 
   yes-some : (o : Option Bool) → is_yes o ≡ true → o ≡ Some true
@@ -117,7 +118,7 @@ module _ (z : Sizes) (w v : Net) (n : ℕ) (s u : BrickState) (ls : List (NodeNo
   or-split true c e = inl refl
   or-split false c e = inr e
 
-  done-decides : BrickDone z w v n s u ls b → DECIDE w b → DECIDE v (with_brick n u b)
+  done-decides : BrickDone z w v n s u ls b → AllDecide w b → AllDecide v (with_brick n u b)
   done-decides h decide =
       brick-decides z w v n s u ls b h.step h.lives decide
       (λ t d. elim (or-split (b.decided t) (is_yes (get u.locks.outcomes t)) d) [
@@ -125,7 +126,7 @@ module _ (z : Sizes) (w v : Net) (n : ℕ) (s u : BrickState) (ls : List (NodeNo
         | inr e ↦ h.fresh t (yes-some (get u.locks.outcomes t) e)
       ]) h.sures
 
-  done-notes : BrickDone z w v n s u ls b → NOTE w b → NOTE v (with_brick n u b)
+  done-notes : BrickDone z w v n s u ls b → AllNote w b → AllNote v (with_brick n u b)
   done-notes h note k x is = elim (cases_eq k n) [
     | inl e ↦
         let same : u ≡ x = brick-same u x (sym h.step.is ∙ ap v.node (sym e) ∙ is) in
@@ -143,7 +144,7 @@ module _ (z : Sizes) (w v : Net) (n : ℕ) (s u : BrickState) (ls : List (NodeNo
   none-first (Some c) o e = cc
 
   pub no-outcome : Turned z w v n (a_brick s) (a_brick u) ls → u.stopped ≡ false
-      → ((k : ℕ) (l : LibraryState) → w.node k ≡ a_library l → has_node l.known n ≡ false) → TALK v (with_brick n u b) → (k : ℕ) (l : LibraryState) (t : Txn)
+      → ((k : ℕ) (l : LibraryState) → w.node k ≡ a_library l → has_node l.known n ≡ false) → AllTalk v (with_brick n u b) → (k : ℕ) (l : LibraryState) (t : Txn)
       → w.node k ≡ a_library l → t.library ≡ k → l.next ≤ t.number → is_yes (get u.locks.outcomes t) ≡ false
   no-outcome step stays unknown talk k l t is e le =
       let here : w.node t.library ≡ a_library l = ap w.node e ∙ is in
@@ -154,7 +155,7 @@ module _ (z : Sizes) (w v : Net) (n : ℕ) (s u : BrickState) (ls : List (NodeNo
       ap is_yes (none-first (get u.locks.outcomes t) (b.noted n t)
       (sym (noted-here t) ∙ (at-none u.locks.pending ((with_brick n u b).noted n t) t new).1))
 
-  done-library : BrickDone z w v n s u ls b → TALK v (with_brick n u b) → (k : ℕ) (l : LibraryState) → w.node k ≡ a_library l → LibraryOk z b k l
+  done-library : BrickDone z w v n s u ls b → AllTalk v (with_brick n u b) → (k : ℕ) (l : LibraryState) → w.node k ≡ a_library l → LibraryOk z b k l
       → LibraryOk z (with_brick n u b) k l
   done-library h talk k l is ok =
       record {
@@ -173,10 +174,10 @@ module _ (z : Sizes) (w v : Net) (n : ℕ) (s u : BrickState) (ls : List (NodeNo
         groups = ok.groups;
       }
 
-  done-calls : BrickDone z w v n s u ls b → TALK v (with_brick n u b) → CALLS z w b → CALLS z v (with_brick n u b)
+  done-calls : BrickDone z w v n s u ls b → AllTalk v (with_brick n u b) → AllCall z w b → AllCall z v (with_brick n u b)
   done-calls h talk calls k l is = let was = library-was h k l is in done-library h talk k l was (calls k l was)
 
-  done-noted : NOTED b → NOTED (with_brick n u b)
+  done-noted : NotedAsDecided b → NotedAsDecided (with_brick n u b)
   done-noted noted k t e = elim (cases_eq k n) [
     | inl same ↦ parted (get u.locks.outcomes t) refl
         (sym (noted-here t) ∙ ap (λ i. (with_brick n u b).noted i t) (sym same) ∙ e)
@@ -189,7 +190,7 @@ module _ (z : Sizes) (w v : Net) (n : ℕ) (s u : BrickState) (ls : List (NodeNo
       parted None f q = ap (λ x. x || is_yes (get u.locks.outcomes t)) (noted n t (sym (ap (λ x. first_some x (b.noted n t)) f) ∙ q))
       parted (Some c) f q = or_right (b.decided t) (is_yes (get u.locks.outcomes t)) (ap is_yes (f ∙ sym (ap (λ x. first_some x (b.noted n t)) f) ∙ q))
 
-  done-kept : BrickDone z w v n s u ls b → KEPT w b → KEPT v (with_brick n u b)
+  done-kept : BrickDone z w v n s u ls b → AllKeep w b → AllKeep v (with_brick n u b)
   done-kept h kept t m l x library is lives up =
       let was = library-was h t.library l library in
       elim (cases_eq m n) [

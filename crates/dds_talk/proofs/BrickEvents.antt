@@ -30,7 +30,7 @@ use Rattle.dds_talk.specs.Parts.{BrickOk, Commit, Conversation, Meeting}
 use Rattle.dds_talk.specs.Seen.{asked, asks, at, is_open, is_pending, noting, of, one, said, says}
 use Rattle.dds_talk.specs.Table.{Ask}
 use Rattle.dds_talk.specs.Table.Ask.{prepare, commit, abort}
-use Rattle.dds_talk.specs.Table.At.{N}
+use Rattle.dds_talk.specs.Table.At.{Unprepared}
 
 -- A brick's turns: at a library's letter of an attempt, at what leaves attempts alone, and what resolves them.
 
@@ -187,7 +187,8 @@ prepare-done z w v n from s p below name stamp b a turn knows bound =
     let it = asker-talk z w v n from s r b l p.txn a turn in
     let self : same_txn p.txn p.txn ≡ true = same-self p.txn in
     let fits = fits-alive z w v n from s r b l p.txn prepare p.txn a.library a turn refl it.0 it.1 in
-    let new : at s.locks.pending (b.noted n p.txn) p.txn ≡ N = subst (λ c. Fits (one c prepare) (at s.locks.pending (b.noted n p.txn) p.txn)) self fits in
+    let new : at s.locks.pending (b.noted n p.txn) p.txn ≡ Unprepared = subst (λ c. Fits (one c prepare) (at s.locks.pending (b.noted n p.txn) p.txn)) self fits
+    in
     hears-done z w v n s r b (record {
       turn = turn;
       knows = knows;

@@ -23,7 +23,7 @@ use Rattle.dds_talk.specs.Seen.{Once, at, at_of, is_pending, noting, one, said, 
 use Rattle.dds_talk.specs.Table.{Ask, Say, At, View, Talks}
 use Rattle.dds_talk.specs.Table.Ask.{prepare, commit, abort}
 use Rattle.dds_talk.specs.Table.Say.{yes, no, applied, aborted}
-use Rattle.dds_talk.specs.Table.At.{N, P}
+use Rattle.dds_talk.specs.Table.At.{Unprepared, Prepared}
 
 -- A brick's turn at a library's letter of an attempt, as each attempt sees it.
 
@@ -35,8 +35,8 @@ pub data Half : List Ask → At → At → List Say → Type 0 where
 -- what an attempt must be, to hear this
 abbrev pub Fits : List Ask → At → Type 0
 Fits [] a = Unit {0}
-Fits (prepare ∷ xs) a = a ≡ N
-Fits (commit ∷ xs) a = a ≡ P
+Fits (prepare ∷ xs) a = a ≡ Unprepared
+Fits (commit ∷ xs) a = a ≡ Prepared
 Fits (abort ∷ xs) a = Unit {0}
 
 -- a turn from s to u that sends these letters
@@ -51,9 +51,9 @@ says-one z t txn from l y f e own = about-own said t txn z from l y f.few e own 
 
 -- Prepare
 half-yes : (b x : Bool) (n : Option Bool) → Half (one b prepare) (at_of x n) (at_of (x || b) n) (one b yes)
-half-yes true true n = hears (votes_yes P)
+half-yes true true n = hears (votes_yes Prepared)
 half-yes true false n = hears (votes_yes (at_of false n))
-half-yes false true n = still P
+half-yes false true n = still Prepared
 half-yes false false n = still (at_of false n)
 
 half-no : (b : Bool) (a : At) → Half (one b prepare) a a (one b no)
@@ -75,7 +75,7 @@ prepare-row z s from p below name stamp noted t f own a =
     voted z (calls.trim s p.txn.library below) from p (update_denial s p.op name stamp) noted t f own (trim-agrees s.locks.outcomes noted p.txn.library below a)
 
 -- Commit
-is-p : (x : Bool) (n : Option Bool) → at_of x n ≡ P → x ≡ true
+is-p : (x : Bool) (n : Option Bool) → at_of x n ≡ Prepared → x ≡ true
 is-p true n e = refl
 is-p false None e = cc
 is-p false (Some true) e = cc
@@ -164,7 +164,7 @@ pub other-row : (z : Sizes) (s : BrickState) (r : BrickTurn) (noted : Txn → Op
     → r.state.locks.pending ≡ s.locks.pending → r.state.locks.outcomes ≡ s.locks.outcomes → NoneAbout said t r.out.letters → Row z noted s [] r t
 other-row z s r noted t a p o q = rw (p, o, about-none said t z t.library r.out.letters q, a t) (still (at s.locks.pending (noted t) t))
 
--- a row's half carries TALK
+-- a row's half carries `talk`
 pub half-talks : {ll : Bool} {v : View} {xs o : List Ask} {a a' : At} {ys b : List Say} → Half xs a a' ys → Talks ll true v (xs ++ o) a b
     → Talks ll true v o a' (b ++ ys)
 half-talks {ll = ll} {v = v} {o = o} {b = b} (still a) h = subst (λ x. Talks ll true v o a x) (sym (append-nil b)) h

@@ -14,7 +14,7 @@ use Rattle.dds_talk.proofs.Letters.{about-append}
 use Rattle.dds_talk.proofs.Moves.{asked-new, commit-prepared, learns}
 use Rattle.dds_talk.proofs.Sure.{sure-half}
 use Rattle.dds_talk.specs.Books.{Books, with_brick}
-use Rattle.dds_talk.specs.Parts.{Conversation, DECIDE, Decided, IsSure, Meeting, Sure, TALK}
+use Rattle.dds_talk.specs.Parts.{Conversation, AllDecide, Decided, IsSure, Meeting, Sure, AllTalk}
 use Rattle.dds_talk.specs.Seen.{asks, at, noting, one, said, says, view}
 use Rattle.dds_talk.specs.Table.{View, Ask, Say, At, Talk, Talks, IsTalk, Known}
 use Rattle.dds_talk.specs.Table.IsTalk.{unknowing, knowing}
@@ -76,8 +76,8 @@ met-away z w v n s u ls t m l y step ne meets =
     record { before = record { library = library; member = member; unknown = meets.unknown }; apart = apart-from w t m l y library member }
 
 pub brick-talks : (z : Sizes) (w v : Net) (n : ℕ) (s u : BrickState) (ls : List (NodeNo × Letter)) (b : Books)
-    → Turned z w v n (a_brick s) (a_brick u) ls → TALK w b
-    → ((t : Txn) (l : LibraryState) → Here w t n l s → Conversation w b t n l s → Conversation v (with_brick n u b) t n l u) → TALK v (with_brick n u b)
+    → Turned z w v n (a_brick s) (a_brick u) ls → AllTalk w b
+    → ((t : Txn) (l : LibraryState) → Here w t n l s → Conversation w b t n l s → Conversation v (with_brick n u b) t n l u) → AllTalk v (with_brick n u b)
 brick-talks z w v n s u ls b step talk each t m l x meets = elim (cases_eq m n) [
   | inl e ↦ subst (λ k. (y : BrickState) → Meeting v t k l y → Conversation v (with_brick n u b) t k l y) (sym e) at-n x meets
   | inr ne ↦
@@ -97,9 +97,9 @@ OrSure v b b' =
     (t : Txn) → b'.decided t ≡ true → (b.decided t ≡ true) ⊎ ((m : ℕ) (l : LibraryState) (x : BrickState) → Decided v b' t m l x → IsSure v b' t m l x)
 
 pub brick-decides : (z : Sizes) (w v : Net) (n : ℕ) (s u : BrickState) (ls : List (NodeNo × Letter)) (b : Books)
-    → Turned z w v n (a_brick s) (a_brick u) ls → (u.stopped ≡ false → s.stopped ≡ false) → DECIDE w b → OrSure v b (with_brick n u b)
+    → Turned z w v n (a_brick s) (a_brick u) ls → (u.stopped ≡ false → s.stopped ≡ false) → AllDecide w b → OrSure v b (with_brick n u b)
     → ((t : Txn) (l : LibraryState) → Here w t n l s → b.decided t ≡ true → IsSure w b t n l s → IsSure v (with_brick n u b) t n l u)
-    → DECIDE v (with_brick n u b)
+    → AllDecide v (with_brick n u b)
 brick-decides z w v n s u ls b step lives decide new each t m l x d = elim (new t d.decided) [
   | inr h ↦ h m l x d
   | inl was ↦ elim (cases_eq m n) [

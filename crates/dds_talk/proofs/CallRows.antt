@@ -31,7 +31,7 @@ use Rattle.dds_talk.specs.Seen.{IsGroup, asked, asks, of, one, phase_view, vote_
 use Rattle.dds_talk.specs.Table.{Ask, Say, View}
 use Rattle.dds_talk.specs.Table.Ask.{commit, abort}
 use Rattle.dds_talk.specs.Table.Say.{yes, no, applied, aborted}
-use Rattle.dds_talk.specs.Table.View.{Pw, Pv, Cw, Ca, Aw, Aa, Past}
+use Rattle.dds_talk.specs.Table.View.{VoteDue, VoteHeard, CommitDue, CommitHeard, AbortDue, AbortHeard, Past}
 
 -- A call's turn, as one member of its attempt sees it.
 
@@ -80,15 +80,15 @@ from_it m f y = one (m == f) y
 
 -- a vote that is yes
 yes-view : (b w last : Bool) → w ≡ true ⊎ b ≡ false → (b ≡ false → last ≡ true → w ≡ false)
-    → Takes (if w then Pw else Pv) (one b yes) (if last then Cw else (if w && not b then Pw else Pv)) (one last commit)
+    → Takes (if w then VoteDue else VoteHeard) (one b yes) (if last then CommitDue else (if w && not b then VoteDue else VoteHeard)) (one last commit)
 yes-view true true true h k = last_yes
 yes-view true true false h k = hears_yes
 yes-view true false last (inl e) k = cc
 yes-view true false last (inr e) k = cc
 yes-view false true true h k = let e : true ≡ false = k refl refl in cc
-yes-view false true false h k = rests Pw
+yes-view false true false h k = rests VoteDue
 yes-view false false true h k = commits
-yes-view false false false h k = rests Pv
+yes-view false false false h k = rests VoteHeard
 
 heard-waits : (waiting : List ℕ) (f m : ℕ) → has waiting f ≡ true → (m == f) ≡ true → has waiting m ≡ true
 heard-waits waiting f m w e = ap (has waiting) (equal-nodes m f e) ∙ w
@@ -131,7 +131,7 @@ pub prepared-row : (z : Sizes) (d : Desk) (c : OpenCall) (leaf : Leaf) (list wai
 prepared-row z d c leaf list waiting f m p w h = prepared-if (is_none_left (without waiting f)) z d c leaf list waiting f m p refl w h
 
 -- a vote that is no
-no-view : (b w : Bool) → w ≡ true ⊎ b ≡ false → Takes (if w then Pw else Pv) (one b no) Aw (abort ∷ [])
+no-view : (b w : Bool) → w ≡ true ⊎ b ≡ false → Takes (if w then VoteDue else VoteHeard) (one b no) AbortDue (abort ∷ [])
 no-view true true h = hears_no
 no-view true false (inl e) = cc
 no-view true false (inr e) = cc
@@ -154,12 +154,12 @@ vote-here z d c leaf list waiting f m (ballot.No why) true p w y k = denied-row 
 vote-here z d c leaf list waiting f m v false p w y k = absurd (not-both y)
 
 -- who may vote while members are waited for, and later
-may-vote : (w : Bool) (v : Ballot) → MaySay (if w then Pw else Pv) (vote_said v) → w ≡ true
+may-vote : (w : Bool) (v : Ballot) → MaySay (if w then VoteDue else VoteHeard) (vote_said v) → w ≡ true
 may-vote true v h = refl
 may-vote false ballot.Yes h = absurd h
 may-vote false (ballot.No why) h = absurd h
 
-no-vote-committing : (w : Bool) (v : Ballot) → MaySay (if w then Cw else Ca) (vote_said v) → ⊥
+no-vote-committing : (w : Bool) (v : Ballot) → MaySay (if w then CommitDue else CommitHeard) (vote_said v) → ⊥
 no-vote-committing true ballot.Yes h = h
 no-vote-committing true (ballot.No why) h = h
 no-vote-committing false ballot.Yes h = h
@@ -169,13 +169,13 @@ no-vote-past : (v : Ballot) → MaySay Past (vote_said v) → ⊥
 no-vote-past ballot.Yes h = h
 no-vote-past (ballot.No why) h = h
 
-late-vote : (b w : Bool) (v : Ballot) → (b ≡ true → MaySay (if w then Aw else Aa) (vote_said v))
-    → Takes (if w then Aw else Aa) (one b (vote_said v)) (if w then Aw else Aa) []
+late-vote : (b w : Bool) (v : Ballot) → (b ≡ true → MaySay (if w then AbortDue else AbortHeard) (vote_said v))
+    → Takes (if w then AbortDue else AbortHeard) (one b (vote_said v)) (if w then AbortDue else AbortHeard) []
 late-vote true true ballot.Yes h = passes_yes
 late-vote true true (ballot.No why) h = passes_no
 late-vote true false ballot.Yes h = absurd (h refl)
 late-vote true false (ballot.No why) h = absurd (h refl)
-late-vote false w v h = rests (if w then Aw else Aa)
+late-vote false w v h = rests (if w then AbortDue else AbortHeard)
 
 moved : (waiting : List ℕ) (P : Bool → Type 0) (f m : ℕ) → (m == f) ≡ true → P (has waiting f) → P (has waiting m)
 moved waiting P f m e h = subst (λ n. P (has waiting n)) (sym (equal-nodes m f e)) h
@@ -188,19 +188,19 @@ vote-row z d c (Preparing leaf members waiting) list f m v p i y h =
 vote-row z d c (Committing leaf members waiting was) list f m v p i y h = absurd (no-vote-committing (has waiting f) v y)
 vote-row z d c (Aborting waiting why brick) list f m v p i y h =
     row-stays z c d m (from_it m f (vote_said v)) c.phase (rw p (late-vote (m == f) (has waiting m) v
-    (λ e. moved waiting (λ w. MaySay (if w then Aw else Aa) (vote_said v)) f m e y)))
+    (λ e. moved waiting (λ w. MaySay (if w then AbortDue else AbortHeard) (vote_said v)) f m e y)))
 vote-row z d c (Asking waiting newest met) list f m v p i y h = absurd (no-vote-past v y)
 
 -- Applied
 applied-view : (b w last : Bool) → (b ≡ true → w ≡ true) → (b ≡ false → last ≡ true → w ≡ false)
-    → Takes (if w then Cw else Ca) (one b applied) (if last then Past else (if w && not b then Cw else Ca)) []
+    → Takes (if w then CommitDue else CommitHeard) (one b applied) (if last then Past else (if w && not b then CommitDue else CommitHeard)) []
 applied-view true true true h k = last_applied
 applied-view true true false h k = hears_applied
 applied-view true false last h k = absurd (not-both (h refl))
 applied-view false true true h k = let e : true ≡ false = k refl refl in cc
-applied-view false true false h k = rests Cw
+applied-view false true false h k = rests CommitDue
 applied-view false false true h k = closes
-applied-view false false false h k = rests Ca
+applied-view false false false h k = rests CommitHeard
 
 -- the call is answered, or waits on with what it keeps
 pub applied-if : (last : Bool) (z : Sizes) (d : Desk) (c : OpenCall) (leaf : Leaf) (list waiting : List NodeNo) (was next : Option Bool) (r : CallTurn)
@@ -214,7 +214,7 @@ applied-if false z d c leaf list waiting was next r f m p e w none quiet =
     row-stays z c d m (from_it m f applied) (Committing leaf list (without waiting f) next)
     (rw (p, has-without waiting f m) (applied-view (m == f) (has waiting m) false (heard-waits waiting f m w) (λ q t. absurd (not-both t))))
 
-may-apply : (w : Bool) → MaySay (if w then Cw else Ca) applied → w ≡ true
+may-apply : (w : Bool) → MaySay (if w then CommitDue else CommitHeard) applied → w ≡ true
 may-apply true h = refl
 may-apply false h = absurd h
 
@@ -225,11 +225,11 @@ none-may y false v u a b h = b h
 pub applied-row : (z : Sizes) (d : Desk) (c : OpenCall) (phase : Phase) (f m : ℕ) (flag : Bool) → c.phase ≡ phase → MaySay (phase_view f phase) applied
     → Row z c m (from_it m f applied) (library.applied_in d c f flag phase)
 applied-row z d c (Getting leaf brick) f m flag p y = absurd y
-applied-row z d c (Preparing leaf members waiting) f m flag p y = absurd (none-may applied (has waiting f) Pw Pv (λ h. h) (λ h. h) y)
+applied-row z d c (Preparing leaf members waiting) f m flag p y = absurd (none-may applied (has waiting f) VoteDue VoteHeard (λ h. h) (λ h. h) y)
 applied-row z d c (Committing leaf members waiting was) f m flag p y =
     applied-if (is_none_left (without waiting f)) z d c leaf members waiting was (Some (library.first_flag was flag)) _ f m p refl
     (may-apply (has waiting f) y) refl refl
-applied-row z d c (Aborting waiting why brick) f m flag p y = absurd (none-may applied (has waiting f) Aw Aa (λ h. h) (λ h. h) y)
+applied-row z d c (Aborting waiting why brick) f m flag p y = absurd (none-may applied (has waiting f) AbortDue AbortHeard (λ h. h) (λ h. h) y)
 applied-row z d c (Asking waiting newest met) f m flag p y = absurd y
 
 -- what begins is another attempt
@@ -240,14 +240,14 @@ begun-past z n r t m (Some x) b e = let k : same_txn x.txn t ≡ false = ap (λ 
 
 -- Aborted
 aborted-view : (b w last : Bool) → (b ≡ true → w ≡ true) → (b ≡ false → last ≡ true → w ≡ false)
-    → Takes (if w then Aw else Aa) (one b aborted) (if last then Past else (if w && not b then Aw else Aa)) []
+    → Takes (if w then AbortDue else AbortHeard) (one b aborted) (if last then Past else (if w && not b then AbortDue else AbortHeard)) []
 aborted-view true true true h k = last_aborted
 aborted-view true true false h k = hears_aborted
 aborted-view true false last h k = absurd (not-both (h refl))
 aborted-view false true true h k = let e : true ≡ false = k refl refl in cc
-aborted-view false true false h k = rests Aw
+aborted-view false true false h k = rests AbortDue
 aborted-view false false true h k = ends
-aborted-view false false false h k = rests Aa
+aborted-view false false false h k = rests AbortHeard
 
 aborted-if : (last : Bool) (z : Sizes) → z.bricks ≤ 64 → (d : Desk) (c : OpenCall) (waiting : List NodeNo) (why : Denial) (brick : NodeNo) (f m : ℕ)
     → c.phase ≡ Aborting waiting why brick → is_none_left (without waiting f) ≡ last → has waiting f ≡ true → same_txn (next_of d.numbers) c.txn ≡ false
@@ -269,14 +269,14 @@ pub aborted-on-row : (z : Sizes) → z.bricks ≤ 64 → (d : Desk) (c : OpenCal
     → Row z c m (from_it m f aborted) (library.aborted_on d c (without waiting f) why brick)
 aborted-on-row z few d c waiting why brick f m p w fresh = aborted-if (is_none_left (without waiting f)) z few d c waiting why brick f m p refl w fresh
 
-may-abort : (w : Bool) → MaySay (if w then Aw else Aa) aborted → w ≡ true
+may-abort : (w : Bool) → MaySay (if w then AbortDue else AbortHeard) aborted → w ≡ true
 may-abort true h = refl
 may-abort false h = absurd h
 
 pub aborted-row : (z : Sizes) → z.bricks ≤ 64 → (d : Desk) (c : OpenCall) (phase : Phase) (f m : ℕ) → c.phase ≡ phase → MaySay (phase_view f phase) aborted
     → same_txn (next_of d.numbers) c.txn ≡ false → Row z c m (from_it m f aborted) (library.aborted_in d c f phase)
 aborted-row z few d c (Getting leaf brick) f m p y fresh = absurd y
-aborted-row z few d c (Preparing leaf members waiting) f m p y fresh = absurd (none-may aborted (has waiting f) Pw Pv (λ h. h) (λ h. h) y)
-aborted-row z few d c (Committing leaf members waiting was) f m p y fresh = absurd (none-may aborted (has waiting f) Cw Ca (λ h. h) (λ h. h) y)
+aborted-row z few d c (Preparing leaf members waiting) f m p y fresh = absurd (none-may aborted (has waiting f) VoteDue VoteHeard (λ h. h) (λ h. h) y)
+aborted-row z few d c (Committing leaf members waiting was) f m p y fresh = absurd (none-may aborted (has waiting f) CommitDue CommitHeard (λ h. h) (λ h. h) y)
 aborted-row z few d c (Aborting waiting why brick) f m p y fresh = aborted-on-row z few d c waiting why brick f m p (may-abort (has waiting f) y) fresh
 aborted-row z few d c (Asking waiting newest met) f m p y fresh = absurd y

@@ -10,7 +10,7 @@ use Rattle.dds_net.specs.Net.{Net, a_brick, a_library, Sizes, changed, gains, is
 use Rattle.dds_talk.proofs.BrickTalks.{no-both}
 use Rattle.dds_talk.proofs.Changes.{Turned, is-taken, takes-rest, takes-turned}
 use Rattle.dds_talk.specs.Books.{Books}
-use Rattle.dds_talk.specs.Parts.{Commit, DECIDE, TALK}
+use Rattle.dds_talk.specs.Parts.{Commit, AllDecide, AllTalk}
 use Rattle.dds_talk.specs.Seen.{asked, asks, of, says}
 use Rattle.dds_talk.specs.Table.{View, Ask, Say, At, IsTalk}
 use Rattle.dds_talk.specs.Table.Talks.{gone, left, lost}
@@ -85,7 +85,7 @@ module _ (z : Sizes) (w : Net) (n from : ℕ) (l : Letter) (b : Books) where
   deaf-library : (x : LibraryState) → IsDeaf (w.node n) → w.node n ≡ a_library x → x.stopped ≡ true
   deaf-library x d e = subst IsDeaf e d
 
-  deaf-talks : IsDeaf (w.node n) → IsFirst z w n from l → TALK w b → TALK v b
+  deaf-talks : IsDeaf (w.node n) → IsFirst z w n from l → AllTalk w b → AllTalk v b
   deaf-talks d f talk t m y x meets =
       let library : w.node t.library ≡ a_library y = sym (same-node t.library) ∙ meets.library in
       let member : w.node m ≡ a_brick x = sym (same-node m) ∙ meets.member in
@@ -110,7 +110,7 @@ module _ (z : Sizes) (w : Net) (n from : ℕ) (l : Letter) (b : Books) where
             ]
       ]
 
-  deaf-decides : IsDeaf (w.node n) → DECIDE w b → DECIDE v b
+  deaf-decides : IsDeaf (w.node n) → AllDecide w b → AllDecide v b
   deaf-decides d decide t m y x k =
       let library : w.node t.library ≡ a_library y = sym (same-node t.library) ∙ k.meets.library in
       let member : w.node m ≡ a_brick x = sym (same-node m) ∙ k.meets.member in

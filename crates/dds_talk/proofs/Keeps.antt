@@ -90,7 +90,7 @@ commit-keeps z h n (library_stops at s kept) b g after f owes parts =
       nobody = λ m x is. library-unknown z n at m s x g f.here is f.live;
     }) parts
 
--- a noted outcome never changes: NOTED-ONCE
+-- a noted outcome never changes
 pub noted-once : (z : Sizes) (h : History) (n : Net) (e : Event) (b : talk.Books) → Ground z n → AreLinked z (moved z n e) → Fits z h.callers n e
     → Owes z n e b → Commit z n b → (k : ℕ) (t : Txn) (c : Bool) → b.noted k t ≡ Some c → (talk.adds h n e b).noted k t ≡ Some c
 noted-once z h n (brick_takes at from l s) b g after f owes parts k t c is =

@@ -17,7 +17,7 @@ use Rattle.dds_talk.proofs.LibraryTalks.{LibraryStep, library-calls, library-dec
 use Rattle.dds_talk.proofs.Locks.{at-none}
 use Rattle.dds_talk.proofs.Turns.{found-is, or-stands}
 use Rattle.dds_talk.specs.Books.{Books, or_else, with_library}
-use Rattle.dds_talk.specs.Parts.{Commit, IsFor, KEPT, LibraryOk}
+use Rattle.dds_talk.specs.Parts.{Commit, IsFor, AllKeep, LibraryOk}
 use Rattle.dds_talk.specs.Seen.{call_of, is_open, members_in}
 use Rattle.dds_talk.specs.Table.{Say}
 
@@ -78,7 +78,7 @@ module _ (z : Sizes) (w v : Net) (n : ℕ) (s u : LibraryState) (heard : Txn →
       parts.kept t m s x (ap w.node e ∙ h.step.here) is lives (h.saw.opens t (grind (arith, nat_tests, le)) up)
 
   library-kept : LibraryStep z w v n s u heard out b → Commit z w b
-      → ((m : ℕ) (x : BrickState) → w.node m ≡ a_brick x → x.stopped ≡ false → has_node s.known m ≡ false) → KEPT v (with_library n u b)
+      → ((m : ℕ) (x : BrickState) → w.node m ≡ a_brick x → x.stopped ≡ false → has_node s.known m ≡ false) → AllKeep v (with_library n u b)
   library-kept h parts un t m l x library is lives up =
       let was = brick-was h m x is in
       elim (cases_eq t.library n) [

@@ -22,11 +22,11 @@ use Rattle.dds_talk.proofs.Many.{many-is, many-sure}
 use Rattle.dds_talk.proofs.Sure.{IsDoing, is-sure}
 use Rattle.dds_talk.proofs.Turns.{Mid, found-is, fresh, not-new, now, or-nothing, some-same}
 use Rattle.dds_talk.specs.Books.{Books, or_else, with_library}
-use Rattle.dds_talk.specs.Parts.{CALLS, Conversation, DECIDE, Decided, IsFor, IsSure, LibraryOk, Meeting, NOTED, TALK}
+use Rattle.dds_talk.specs.Parts.{AllCall, Conversation, AllDecide, Decided, IsFor, IsSure, LibraryOk, Meeting, NotedAsDecided, AllTalk}
 use Rattle.dds_talk.specs.Seen.{IsGroup, asked, asks, at, call_of, commits_now, is_committing, members_in, members_of, phase_view}
 use Rattle.dds_talk.specs.Seen.{says, view}
 use Rattle.dds_talk.specs.Table.{Say}
-use Rattle.dds_talk.specs.Table.View.{Cw, Ca}
+use Rattle.dds_talk.specs.Table.View.{CommitDue, CommitHeard}
 
 -- A library's turn keeps the conversations, what is sure, and what is so of its calls.
 
@@ -68,7 +68,7 @@ module _ (z : Sizes) (w v : Net) (n : ℕ) (s u : LibraryState) (heard : Txn →
       ap (λ i. asks t (v.channel i m)) e ∙ ap (asks t) (h.step.from m ne) ∙ about-append asked t (w.channel n m) (gains z out.letters m)
       ∙ ap (λ i. asks t (w.channel i m) ++ asks t (gains z out.letters m)) (sym e)
 
-  own-talk : LibraryStep z w v n s u heard out b → TALK w b → (t : Txn) (m : ℕ) (x : BrickState) → t.library ≡ n → v.node m ≡ a_brick x
+  own-talk : LibraryStep z w v n s u heard out b → AllTalk w b → (t : Txn) (m : ℕ) (x : BrickState) → t.library ≡ n → v.node m ≡ a_brick x
       → has_node u.known m ≡ false → Conversation v (with_library n u b) t m u x
   own-talk h talk t m x e is un =
       let was = member-was h m x is in
@@ -83,7 +83,7 @@ module _ (z : Sizes) (w v : Net) (n : ℕ) (s u : LibraryState) (heard : Txn →
       let before = rw alive at old in
       rw (stays, list) (many-is nobody (h.saw.sees t m e (h.inside m x was) un) back (sent h t m e ne) before)
 
-  other-talk : LibraryStep z w v n s u heard out b → TALK w b → (t : Txn) (m : ℕ) (l : LibraryState) (x : BrickState) → (t.library ≡ n → ⊥)
+  other-talk : LibraryStep z w v n s u heard out b → AllTalk w b → (t : Txn) (m : ℕ) (l : LibraryState) (x : BrickState) → (t.library ≡ n → ⊥)
       → Meeting v t m l x → Conversation v (with_library n u b) t m l x
   other-talk h talk t m l x ne meets =
       let apart = member-apart h m x meets.member in
@@ -96,7 +96,7 @@ module _ (z : Sizes) (w v : Net) (n : ℕ) (s u : LibraryState) (heard : Txn →
         unknown = meets.unknown;
       }))
 
-  pub library-talks : LibraryStep z w v n s u heard out b → TALK w b → TALK v (with_library n u b)
+  pub library-talks : LibraryStep z w v n s u heard out b → AllTalk w b → AllTalk v (with_library n u b)
   library-talks h talk t m l x meets = elim (cases_eq t.library n) [
     | inl e ↦
         let same : u ≡ l = library-same u l (sym h.step.is ∙ ap v.node (sym e) ∙ meets.library) in
@@ -107,7 +107,7 @@ module _ (z : Sizes) (w v : Net) (n : ℕ) (s u : LibraryState) (heard : Txn →
 
   -- what is sure
   doing-phase : (m : ℕ) (p : Phase) → commits_now p ≡ true → IsDoing (phase_view m p)
-  doing-phase m (Committing leaf list waiting was) e = elim (has waiting m) as (λ b. IsDoing (if b then Cw else Ca)) [ true ↦ tt | false ↦ tt ]
+  doing-phase m (Committing leaf list waiting was) e = elim (has waiting m) as (λ b. IsDoing (if b then CommitDue else CommitHeard)) [ true ↦ tt | false ↦ tt ]
   doing-phase m (Getting leaf brick) e = cc
   doing-phase m (Preparing leaf list waiting) e = cc
   doing-phase m (Aborting waiting why brick) e = cc
@@ -125,7 +125,7 @@ module _ (z : Sizes) (w v : Net) (n : ℕ) (s u : LibraryState) (heard : Txn →
   or-split true c e = inl refl
   or-split false c e = inr e
 
-  own-sure : LibraryStep z w v n s u heard out b → DECIDE w b → TALK v (with_library n u b) → ((t : Txn) → t.library ≡ n → b.decided t ≡ true
+  own-sure : LibraryStep z w v n s u heard out b → AllDecide w b → AllTalk v (with_library n u b) → ((t : Txn) → t.library ≡ n → b.decided t ≡ true
       → t.number < s.next)
       → (t : Txn) (m : ℕ) (x : BrickState) → t.library ≡ n → Decided v (with_library n u b) t m u x → IsSure v (with_library n u b) t m u x
   own-sure h decide talk made t m x e d = elim (or-split (b.decided t) (is_committing (call_of u.calls t)) (sym (decided-here n u b t e) ∙ d.decided)) [
@@ -152,7 +152,7 @@ module _ (z : Sizes) (w v : Net) (n : ℕ) (s u : LibraryState) (heard : Txn →
         is-sure now-talk (doing-call ((with_library n u b).list t) t m (call_of u.calls t) h.saw.mid refl cm d.member)
   ]
 
-  other-sure : LibraryStep z w v n s u heard out b → DECIDE w b → (t : Txn) (m : ℕ) (l : LibraryState) (x : BrickState) → (t.library ≡ n → ⊥)
+  other-sure : LibraryStep z w v n s u heard out b → AllDecide w b → (t : Txn) (m : ℕ) (l : LibraryState) (x : BrickState) → (t.library ≡ n → ⊥)
       → Decided v (with_library n u b) t m l x → IsSure v (with_library n u b) t m l x
   other-sure h decide t m l x ne d =
       let apart = member-apart h m x d.meets.member in
@@ -169,8 +169,8 @@ module _ (z : Sizes) (w v : Net) (n : ℕ) (s u : LibraryState) (heard : Txn →
         decided = sym (decided-other n u b t ne) ∙ d.decided;
       }))
 
-  pub library-decides : LibraryStep z w v n s u heard out b → DECIDE w b → TALK v (with_library n u b)
-      → ((t : Txn) → t.library ≡ n → b.decided t ≡ true → t.number < s.next) → DECIDE v (with_library n u b)
+  pub library-decides : LibraryStep z w v n s u heard out b → AllDecide w b → AllTalk v (with_library n u b)
+      → ((t : Txn) → t.library ≡ n → b.decided t ≡ true → t.number < s.next) → AllDecide v (with_library n u b)
   library-decides h decide talk made t m l x d = elim (cases_eq t.library n) [
     | inl e ↦
         let same : u ≡ l = library-same u l (sym h.step.is ∙ ap v.node (sym e) ∙ d.meets.library) in
@@ -245,7 +245,7 @@ module _ (z : Sizes) (w v : Net) (n : ℕ) (s u : LibraryState) (heard : Txn →
         groups = λ t e. subst (IsGroup z) (sym (list-other n u b t (λ q. ne (sym e ∙ q)))) (ok.groups t e);
       }
 
-  pub library-calls : LibraryStep z w v n s u heard out b → AreGroups z u → CALLS z w b → CALLS z v (with_library n u b)
+  pub library-calls : LibraryStep z w v n s u heard out b → AreGroups z u → AllCall z w b → AllCall z v (with_library n u b)
   library-calls h groups calls k y is = elim (cases_eq k n) [
     | inl e ↦
         let same : u ≡ y = library-same u y (sym h.step.is ∙ ap v.node (sym e) ∙ is) in
@@ -262,5 +262,5 @@ decided-grows n u b t d = elim (cases_eq t.library n) [
   | inr ne ↦ decided-other n u b t ne ∙ d
 ]
 
-pub library-noted : (n : ℕ) (u : LibraryState) (b : Books) → NOTED b → NOTED (with_library n u b)
+pub library-noted : (n : ℕ) (u : LibraryState) (b : Books) → NotedAsDecided b → NotedAsDecided (with_library n u b)
 library-noted n u b h k t e = decided-grows n u b t (h k t e)

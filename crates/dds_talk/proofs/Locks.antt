@@ -29,9 +29,9 @@ use Rattle.dds_talk.proofs.Tales.{Done, Tale, dropped-none, ends-one}
 use Rattle.dds_talk.proofs.Tales.Done.{same, ended}
 use Rattle.dds_talk.specs.Parts.{BrickOk}
 use Rattle.dds_talk.specs.Seen.{Once, at, at_of, is_pending, noting}
-use Rattle.dds_talk.specs.Table.At.{N}
+use Rattle.dds_talk.specs.Table.At.{Unprepared}
 
--- What is pending and noted at a brick after a turn: NOTE, LOCK, and KEPT.
+-- What is pending and noted at a brick after a turn: `note`, `apart`, and `kept`.
 
 twice : (g n : Option Bool) → first_some g (first_some g n) ≡ first_some g n
 twice None n = refl
@@ -93,13 +93,13 @@ done-holds s u t (ended c p q r) = anew c r
 
 -- Prepare
 
-free-at : (x : Bool) (n : Option Bool) → at_of x n ≡ N → (x ≡ false) × (n ≡ None)
+free-at : (x : Bool) (n : Option Bool) → at_of x n ≡ Unprepared → (x ≡ false) × (n ≡ None)
 free-at true n e = cc
 free-at false None e = (refl, refl)
 free-at false (Some true) e = cc
 free-at false (Some false) e = cc
 
-pub at-none : (ps : List Pending) (noted : Option Bool) (t : Txn) → at ps noted t ≡ N → (is_pending ps t ≡ false) × (noted ≡ None)
+pub at-none : (ps : List Pending) (noted : Option Bool) (t : Txn) → at ps noted t ≡ Unprepared → (is_pending ps t ≡ false) × (noted ≡ None)
 at-none ps noted t e = free-at (is_pending ps t) noted e
 
 no-second : {X : Type 0} (a b : Option X) → first_some a b ≡ None → (a ≡ None) × (b ≡ None)
@@ -136,7 +136,8 @@ or-parts false b e = inr e
 
 -- over a state whose trimming was done
 voted-locks : (noted : Txn → Option Bool) (s : BrickState) (from : NodeNo) (p : Pending) (d : Option Denial) → BrickOk noted s
-    → at s.locks.pending (noted p.txn) p.txn ≡ N → (d ≡ None → holder s.locks.pending (the_key p.op) ≡ None) → Locks noted (calls.voted s from p d).state
+    → at s.locks.pending (noted p.txn) p.txn ≡ Unprepared → (d ≡ None → holder s.locks.pending (the_key p.op) ≡ None)
+    → Locks noted (calls.voted s from p d).state
 voted-locks noted s from p None ok is key =
     let none = at-none s.locks.pending (noted p.txn) p.txn is in
     record {
@@ -150,7 +151,7 @@ voted-locks noted s from p None ok is key =
 voted-locks noted s from p (Some d) ok is key = record { free = λ t e. ok.agrees t ∙ ok.free t e; once = ok.once; apart = ok.apart }
 
 pub prepare-locks : (noted : Txn → Option Bool) (s : BrickState) (from : NodeNo) (p : Pending) (below : ℕ) (name : Name) (stamp : StampOf) → BrickOk noted s
-    → at s.locks.pending (noted p.txn) p.txn ≡ N → Locks noted (calls.prepare_row s from p below name stamp).state
+    → at s.locks.pending (noted p.txn) p.txn ≡ Unprepared → Locks noted (calls.prepare_row s from p below name stamp).state
 prepare-locks noted s from p below name stamp ok is =
     let x = calls.trim s p.txn.library below in
     let fine : BrickOk noted x = record {

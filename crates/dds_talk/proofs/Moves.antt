@@ -3,23 +3,23 @@ use Rattle.std.proofs.lemmas.List.{append-nil}
 use Rattle.dds_talk.specs.Table.{View, Ask, Say, At, Talk, Talks, Known, IsTalk}
 use Rattle.dds_talk.specs.Table.Talks.{live, left, lost, gone}
 use Rattle.dds_talk.specs.Table.IsTalk.{knowing}
-use Rattle.dds_talk.specs.Table.View.{New, Pw, Pv, Cw, Ca, Aw, Aa, Past, Off}
+use Rattle.dds_talk.specs.Table.View.{New, VoteDue, VoteHeard, CommitDue, CommitHeard, AbortDue, AbortHeard, Past, Off}
 use Rattle.dds_talk.specs.Table.Ask.{prepare, commit, abort}
 use Rattle.dds_talk.specs.Table.Say.{yes, no, applied, aborted}
-use Rattle.dds_talk.specs.Table.At.{N, P, C, A}
+use Rattle.dds_talk.specs.Table.At.{Unprepared, Prepared, Committed, Aborted}
 use Rattle.dds_talk.specs.Table.Talk.{unmade, asked, said_yes, said_no, voted, told_commit, told_applied, done, early, late_yes, late_no, told_abort}
 use Rattle.dds_talk.specs.Table.Talk.{told_denier, yes_aborted, no_aborted, told_aborted, told_nothing, undone, undone_nothing, past_done, past_undone}
 use Rattle.dds_talk.specs.Table.Talk.{past_nothing, off}
 
 -- a member hears a letter, and says one
 pub data Hears : Ask → At → Say → At → Type 0 where
-  votes_yes : (s : At) → Hears prepare s yes P
+  votes_yes : (s : At) → Hears prepare s yes Prepared
   votes_no : (s : At) → Hears prepare s no s
-  applies : Hears commit P applied C
-  aborts : Hears abort P aborted A
-  aborts_none : Hears abort N aborted N
-  aborts_done : Hears abort C aborted C
-  aborts_twice : Hears abort A aborted A
+  applies : Hears commit Prepared applied Committed
+  aborts : Hears abort Prepared aborted Aborted
+  aborts_none : Hears abort Unprepared aborted Unprepared
+  aborts_done : Hears abort Committed aborted Committed
+  aborts_twice : Hears abort Aborted aborted Aborted
 
 pub hears : {v : View} {x : Ask} {o : List Ask} {s s' : At} {y : Say} {b : List Say} → Hears x s y s' → Talk v (x ∷ o) s b → Talk v o s' (b ++ y ∷ [])
 hears (votes_yes s) asked = said_yes
@@ -35,31 +35,31 @@ hears aborts_done h = elim h [ ]
 hears aborts_twice h = elim h [ ]
 
 -- an attempt that is asked for isn't prepared yet; one that is to be committed is prepared
-pub asked-new : {v : View} {o : List Ask} {s : At} {b : List Say} → Talk v (prepare ∷ o) s b → s ≡ N
+pub asked-new : {v : View} {o : List Ask} {s : At} {b : List Say} → Talk v (prepare ∷ o) s b → s ≡ Unprepared
 asked-new asked = refl
 asked-new early = refl
 
-pub commit-prepared : {v : View} {o : List Ask} {s : At} {b : List Say} → Talk v (commit ∷ o) s b → s ≡ P
+pub commit-prepared : {v : View} {o : List Ask} {s : At} {b : List Say} → Talk v (commit ∷ o) s b → s ≡ Prepared
 commit-prepared told_commit = refl
 
 -- a library hears a letter or none, and sends one or none
 pub data Takes : View → List Say → View → List Ask → Type 0 where
-  begins : Takes New [] Pw (prepare ∷ [])
+  begins : Takes New [] VoteDue (prepare ∷ [])
   skips : Takes New [] Off []
-  hears_yes : Takes Pw (yes ∷ []) Pv []
-  last_yes : Takes Pw (yes ∷ []) Cw (commit ∷ [])
-  commits : Takes Pv [] Cw (commit ∷ [])
-  hears_no : Takes Pw (no ∷ []) Aw (abort ∷ [])
-  stops : Takes Pw [] Aw (abort ∷ [])
-  stops_voted : Takes Pv [] Aw (abort ∷ [])
-  passes_yes : Takes Aw (yes ∷ []) Aw []
-  passes_no : Takes Aw (no ∷ []) Aw []
-  hears_applied : Takes Cw (applied ∷ []) Ca []
-  last_applied : Takes Cw (applied ∷ []) Past []
-  closes : Takes Ca [] Past []
-  hears_aborted : Takes Aw (aborted ∷ []) Aa []
-  last_aborted : Takes Aw (aborted ∷ []) Past []
-  ends : Takes Aa [] Past []
+  hears_yes : Takes VoteDue (yes ∷ []) VoteHeard []
+  last_yes : Takes VoteDue (yes ∷ []) CommitDue (commit ∷ [])
+  commits : Takes VoteHeard [] CommitDue (commit ∷ [])
+  hears_no : Takes VoteDue (no ∷ []) AbortDue (abort ∷ [])
+  stops : Takes VoteDue [] AbortDue (abort ∷ [])
+  stops_voted : Takes VoteHeard [] AbortDue (abort ∷ [])
+  passes_yes : Takes AbortDue (yes ∷ []) AbortDue []
+  passes_no : Takes AbortDue (no ∷ []) AbortDue []
+  hears_applied : Takes CommitDue (applied ∷ []) CommitHeard []
+  last_applied : Takes CommitDue (applied ∷ []) Past []
+  closes : Takes CommitHeard [] Past []
+  hears_aborted : Takes AbortDue (aborted ∷ []) AbortHeard []
+  last_aborted : Takes AbortDue (aborted ∷ []) Past []
+  ends : Takes AbortHeard [] Past []
   rests : (v : View) → Takes v [] v []
 
 pub takes : {v v' : View} {x : List Say} {y : List Ask} {o : List Ask} {s : At} {b : List Say} → Takes v x v' y → Talk v o s (x ++ b) → Talk v' (o ++ y) s b
@@ -90,12 +90,12 @@ takes {o = o} {s = s} {b = b} (rests v) h = rw append-nil h
 
 -- what is heard fits the view
 abbrev pub MaySay : View → Say → Type 0
-MaySay Pw yes = Unit {0}
-MaySay Pw no = Unit {0}
-MaySay Cw applied = Unit {0}
-MaySay Aw yes = Unit {0}
-MaySay Aw no = Unit {0}
-MaySay Aw aborted = Unit {0}
+MaySay VoteDue yes = Unit {0}
+MaySay VoteDue no = Unit {0}
+MaySay CommitDue applied = Unit {0}
+MaySay AbortDue yes = Unit {0}
+MaySay AbortDue no = Unit {0}
+MaySay AbortDue aborted = Unit {0}
 MaySay v y = ⊥
 
 pub may-say : {v : View} {o : List Ask} {s : At} {y : Say} {b : List Say} → Talk v o s (y ∷ b) → MaySay v y
@@ -133,12 +133,12 @@ member-stops cut (left c h) = gone
 -- nothing is on its way from a stopped member, and the library knows it
 pub silent : (v : View) {o : List Ask} {s : At} → Talks true false v o s []
 silent New = lost [] unmade
-silent Pw = lost (yes ∷ []) said_yes
-silent Pv = lost [] voted
-silent Cw = lost (applied ∷ []) told_applied
-silent Ca = lost [] done
-silent Aw = lost (aborted ∷ []) told_aborted
-silent Aa = lost [] undone
+silent VoteDue = lost (yes ∷ []) said_yes
+silent VoteHeard = lost [] voted
+silent CommitDue = lost (applied ∷ []) told_applied
+silent CommitHeard = lost [] done
+silent AbortDue = lost (aborted ∷ []) told_aborted
+silent AbortHeard = lost [] undone
 silent Past = lost [] past_done
 silent Off = lost [] off
 
@@ -172,26 +172,26 @@ pub learns : {v : View} {o : List Ask} {s : At} {b : List Say} → o ≡ [] → 
 learns {v = v} {s = s} {b = b} e (left cut h) = subst (λ o. IsTalk false true true v o s b) (sym e) (knowing (known-in h))
 
 -- and resolves the attempt
-pub known-commits : (v : View) → Known v P → Known v C
+pub known-commits : (v : View) → Known v Prepared → Known v Committed
 known-commits New h = cc
-known-commits Pw h = tt
-known-commits Pv h = λ e. cc
-known-commits Cw h = inr refl
-known-commits Ca h = refl
-known-commits Aw h = tt
-known-commits Aa (inl h) = cc
-known-commits Aa (inr h) = cc
+known-commits VoteDue h = tt
+known-commits VoteHeard h = λ e. cc
+known-commits CommitDue h = inr refl
+known-commits CommitHeard h = refl
+known-commits AbortDue h = tt
+known-commits AbortHeard (inl h) = cc
+known-commits AbortHeard (inr h) = cc
 known-commits Past h = absurd (h refl)
 known-commits Off h = cc
 
-pub known-aborts : (v : View) → Known v P → v ≢ Cw → Known v A
+pub known-aborts : (v : View) → Known v Prepared → v ≢ CommitDue → Known v Aborted
 known-aborts New h n = cc
-known-aborts Pw h n = tt
-known-aborts Pv h n = λ e. cc
-known-aborts Cw h n = absurd (n refl)
-known-aborts Ca h n = cc
-known-aborts Aw h n = tt
-known-aborts Aa (inl h) n = cc
-known-aborts Aa (inr h) n = cc
+known-aborts VoteDue h n = tt
+known-aborts VoteHeard h n = λ e. cc
+known-aborts CommitDue h n = absurd (n refl)
+known-aborts CommitHeard h n = cc
+known-aborts AbortDue h n = tt
+known-aborts AbortHeard (inl h) n = cc
+known-aborts AbortHeard (inr h) n = cc
 known-aborts Past h n = absurd (h refl)
 known-aborts Off h n = cc

@@ -16,7 +16,7 @@ use Rattle.dds_talk.proofs.Changes.{Ended, about-kept}
 use Rattle.dds_talk.proofs.Letters.{about-append}
 use Rattle.dds_talk.proofs.Moves.{library-stops, member-stops}
 use Rattle.dds_talk.specs.Books.{Books}
-use Rattle.dds_talk.specs.Parts.{BrickOk, Commit, Conversation, DECIDE, Decided, IsSure, LibraryOk, Meeting, NoAbort, TALK}
+use Rattle.dds_talk.specs.Parts.{BrickOk, Commit, Conversation, AllDecide, Decided, IsSure, LibraryOk, Meeting, NoAbort, AllTalk}
 use Rattle.dds_talk.specs.Seen.{about, asked, asks, at, is_open, said, says}
 use Rattle.dds_talk.specs.Table.{View, Ask, Say, At, Talks, IsTalk}
 use Rattle.dds_talk.specs.Table.Ask.{prepare, commit, abort}
@@ -74,7 +74,7 @@ module _ (z : Sizes) (w v : Net) (n : ℕ) (s : LibraryState) (kept : ℕ → Li
   out-was : (h : LibraryStop) (t : Txn) (m : ℕ) → t.library ≡ n → asks t (w.channel t.library m) ≡ asks t (kept m) ++ asks t (h.step.front m).gone
   out-was h t m e = ap (λ i. asks t (w.channel i m)) e ∙ left-of asked t (kept m) (w.channel n m) (h.step.front m)
 
-  own-talk : LibraryStop → TALK w b → (t : Txn) (m : ℕ) (x : BrickState) → t.library ≡ n → v.node m ≡ a_brick x → has_node s.known m ≡ false
+  own-talk : LibraryStop → AllTalk w b → (t : Txn) (m : ℕ) (x : BrickState) → t.library ≡ n → v.node m ≡ a_brick x → has_node s.known m ≡ false
       → Conversation v b t m stopped x
   own-talk h talk t m x e is un =
       let was = member-was h m x is in
@@ -83,7 +83,7 @@ module _ (z : Sizes) (w v : Net) (n : ℕ) (s : LibraryState) (kept : ℕ → Li
       let none : has_node x.known t.library ≡ false = ap (has_node x.known) e ∙ h.nobody m x was in
       rw (out-left h t m e) (library-is (asks t (h.step.front m).gone) none (out-was h t m e) before)
 
-  library-talks : LibraryStop → TALK w b → TALK v b
+  library-talks : LibraryStop → AllTalk w b → AllTalk v b
   library-talks h talk t m l x meets = elim (cases_eq t.library n) [
     | inl e ↦
         let same : stopped ≡ l = library-same stopped l (sym h.step.is ∙ ap v.node (sym e) ∙ meets.library) in
@@ -99,7 +99,7 @@ module _ (z : Sizes) (w v : Net) (n : ℕ) (s : LibraryState) (kept : ℕ → Li
         }))
   ]
 
-  own-sure : LibraryStop → DECIDE w b → (t : Txn) (m : ℕ) (x : BrickState) → t.library ≡ n → Decided v b t m stopped x → IsSure v b t m stopped x
+  own-sure : LibraryStop → AllDecide w b → (t : Txn) (m : ℕ) (x : BrickState) → t.library ≡ n → Decided v b t m stopped x → IsSure v b t m stopped x
   own-sure h decide t m x e d =
       let old = decide t m s x (record {
         meets = record { library = ap w.node e ∙ h.step.here; member = member-was h m x d.meets.member; unknown = d.meets.unknown };
@@ -115,7 +115,7 @@ module _ (z : Sizes) (w v : Net) (n : ℕ) (s : LibraryState) (kept : ℕ → Li
         view = λ q. cc;
       })
 
-  library-decides : LibraryStop → DECIDE w b → DECIDE v b
+  library-decides : LibraryStop → AllDecide w b → AllDecide v b
   library-decides h decide t m l x d = elim (cases_eq t.library n) [
     | inl e ↦
         let same : stopped ≡ l = library-same stopped l (sym h.step.is ∙ ap v.node (sym e) ∙ d.meets.library) in
@@ -181,7 +181,7 @@ module _ (z : Sizes) (w v : Net) (n : ℕ) (s : BrickState) (kept : ℕ → List
   far-library : BrickStop → (t : Txn) (l : LibraryState) → v.node t.library ≡ a_library l → t.library ≡ n → ⊥
   far-library h t l is = apart-from v t n l (emptied s.number) is h.step.is
 
-  here-talk : BrickStop → TALK w b → (t : Txn) (l : LibraryState) → v.node t.library ≡ a_library l → has_node l.known n ≡ false
+  here-talk : BrickStop → AllTalk w b → (t : Txn) (l : LibraryState) → v.node t.library ≡ a_library l → has_node l.known n ≡ false
       → Conversation v b t n l (emptied s.number)
   here-talk h talk t l is un =
       let far = far-library h t l is in
@@ -194,7 +194,7 @@ module _ (z : Sizes) (w v : Net) (n : ℕ) (s : BrickState) (kept : ℕ → List
       rw (back, h.none t.library) (member-is (asks t (v.channel t.library n)) (at (emptied s.number).locks.pending (b.noted n t) t)
       (says t (h.step.front t.library).gone) (λ q. h.nobody t.library l s n library h.step.here (alive l.stopped q)) old before)
 
-  brick-talks : BrickStop → TALK w b → TALK v b
+  brick-talks : BrickStop → AllTalk w b → AllTalk v b
   brick-talks h talk t m l x meets = elim (cases_eq m n) [
     | inl e ↦ subst (λ k. (y : BrickState) → Meeting v t k l y → Conversation v b t k l y) (sym e)
         (λ y meets.
@@ -218,7 +218,7 @@ module _ (z : Sizes) (w v : Net) (n : ℕ) (s : BrickState) (kept : ℕ → List
       let bad : true ≡ false = ap (λ (y : BrickState). y.stopped) same ∙ lives in
       cc
 
-  brick-decides : BrickStop → DECIDE w b → DECIDE v b
+  brick-decides : BrickStop → AllDecide w b → AllDecide v b
   brick-decides h decide t m l x d =
       let ne = live-other h m x d.meets.member d.live in
       let far = far-library h t l d.meets.library in

@@ -8,7 +8,7 @@ use Rattle.dds_talk.specs.Table.{View, Ask, Say, At, Talk, Talks, IsTalk, Known}
 use Rattle.dds_talk.specs.Table.Talk.{told_commit, told_applied, done}
 use Rattle.dds_talk.specs.Table.Talks.{live, left}
 use Rattle.dds_talk.specs.Table.IsTalk.{unknowing, knowing}
-use Rattle.dds_talk.specs.Table.View.{New, Pw, Pv, Cw, Ca, Aw, Aa, Past, Off}
+use Rattle.dds_talk.specs.Table.View.{New, VoteDue, VoteHeard, CommitDue, CommitHeard, AbortDue, AbortHeard, Past, Off}
 use Rattle.dds_talk.specs.Table.Ask.{prepare, commit, abort}
 use Rattle.dds_talk.specs.Parts.{SureAt, SureView, NoAbort, Sure}
 use Rattle.dds_talk.proofs.BrickRows.{Half, Fits}
@@ -63,12 +63,12 @@ no-abort-front (abort ∷ o) cut h = absurd h
 -- the library's call commits
 abbrev pub IsDoing : View → Type 0
 IsDoing New = ⊥
-IsDoing Pw = ⊥
-IsDoing Pv = ⊥
-IsDoing Cw = Unit {0}
-IsDoing Ca = Unit {0}
-IsDoing Aw = ⊥
-IsDoing Aa = ⊥
+IsDoing VoteDue = ⊥
+IsDoing VoteHeard = ⊥
+IsDoing CommitDue = Unit {0}
+IsDoing CommitHeard = Unit {0}
+IsDoing AbortDue = ⊥
+IsDoing AbortHeard = ⊥
 IsDoing Past = ⊥
 IsDoing Off = ⊥
 
@@ -79,9 +79,9 @@ talk-sure done d = (tt, tt, tt)
 talk-sure h d = absurd d
 
 known-sure : (v : View) (a : At) → Known v a → IsDoing v → SureAt a × SureView v
-known-sure Cw a (inl e) d = (subst SureAt (sym e) tt, tt)
-known-sure Cw a (inr e) d = (subst SureAt (sym e) tt, tt)
-known-sure Ca a e d = (subst SureAt (sym e) tt, tt)
+known-sure CommitDue a (inl e) d = (subst SureAt (sym e) tt, tt)
+known-sure CommitDue a (inr e) d = (subst SureAt (sym e) tt, tt)
+known-sure CommitHeard a e d = (subst SureAt (sym e) tt, tt)
 known-sure v a h d = absurd d
 
 talks-sure : {ll : Bool} {v : View} {o : List Ask} {a : At} {b : List Say} → Talks ll true v o a b → IsDoing v → Sure ll v o a

@@ -21,9 +21,9 @@ use Rattle.dds_talk.specs.Books.{Books, with_brick}
 use Rattle.dds_talk.specs.Parts.{BrickOk, Conversation, Decided, IsSure, Sure, SureAt}
 use Rattle.dds_talk.specs.Seen.{asks, at, at_of, is_pending, noting, said, says, view}
 use Rattle.dds_talk.specs.Table.{View, Ask, Say, At, IsTalk, Known}
-use Rattle.dds_talk.specs.Table.At.{P}
+use Rattle.dds_talk.specs.Table.At.{Prepared}
 use Rattle.dds_talk.specs.Table.IsTalk.{unknowing, knowing}
-use Rattle.dds_talk.specs.Table.View.{Cw}
+use Rattle.dds_talk.specs.Table.View.{CommitDue}
 
 -- A brick's turn that resolves attempts, where each that ends was settled: the brick knows its library, an abort isn't of a
 -- decided attempt, and a commit was decided, or is sure of each live member by now.
@@ -45,7 +45,8 @@ pub record Learns (w v : Net) (n : ℕ) (s u : BrickState) (t : Txn) (l : Librar
   pub keeps : has_node s.known t.library ≡ true → has_node u.known t.library ≡ true
   pub into : asks t (w.channel t.library n) ≡ asks t (v.channel t.library n)
 
-ends-is : {ll k : Bool} {v : View} {o : List Ask} {a : At} {b : List Say} (c : Bool) → k ≡ true → (c ≡ false → v ≢ Cw) → a ≡ P → IsTalk ll true k v o a b
+ends-is : {ll k : Bool} {v : View} {o : List Ask} {a : At} {b : List Say} (c : Bool) → k ≡ true → (c ≡ false → v ≢ CommitDue) → a ≡ Prepared
+    → IsTalk ll true k v o a b
     → IsTalk ll true k v o (at_of false (Some c)) b
 ends-is c kn f e (unknowing h) = cc
 ends-is true kn f e (knowing {v = v} h) = knowing (known-commits v (subst (Known v) e h))

@@ -14,21 +14,21 @@ use Rattle.dds_net.specs.Net.{Net, a_brick, a_library, Sizes}
 use Rattle.dds_talk.specs.Books.{Books}
 use Rattle.dds_talk.specs.Seen.{Apart, IsGroup, Once, asks, at, call_of, commits_now, is_open, is_pending, noting, says, view}
 use Rattle.dds_talk.specs.Table.{View, Ask, At, IsTalk}
-use Rattle.dds_talk.specs.Table.View.{New, Pw, Pv, Cw, Ca, Aw, Aa, Past, Off}
+use Rattle.dds_talk.specs.Table.View.{New, VoteDue, VoteHeard, CommitDue, CommitHeard, AbortDue, AbortHeard, Past, Off}
 use Rattle.dds_talk.specs.Table.Ask.{prepare, commit, abort}
-use Rattle.dds_talk.specs.Table.At.{N, P, C, A}
+use Rattle.dds_talk.specs.Table.At.{Unprepared, Prepared, Committed, Aborted}
 
--- | part     | why it is needed                                                                   | what keeps it                              |
--- | `TALK`   | what is known of a member by what the library sees, and the other way round        | Prepare, Commit, Abort and resolving at    |
--- |          |                                                                                    | bricks; every turn of a call; stops        |
--- | `NOTE`   | what a brick noted is in the books; nothing is noted of what is pending; an        | Prepare (nothing is noted of it, by TALK), |
--- |          | attempt is pending once                                                            | all that note an outcome                   |
--- | `LOCK`   | a key has one pending attempt                                                      | Prepare's test                             |
--- | `CALLS`  | open attempts are their library's, differ, are below `next`, and have the books'   | every turn of a call, an input of a call   |
--- |          | members, each once; attempts yet to come have none and aren't decided              |                                            |
--- | `DECIDE` | a decided attempt is prepared or committed at each live member, none is told to    | votes; Commit; what a resolver decides     |
--- |          | abort it, and its library commits it or has done so; a noted commit was decided    |                                            |
--- | `KEPT`   | of an attempt that is open, trimming dropped no outcome                            | Prepare (its bound), a call's new attempts |
+-- | part     | why it is needed                                                                 | what keeps it                                |
+-- | `talk`   | what is known of a member by what the library sees, and the other way round      | Prepare, Commit, Abort and resolving at      |
+-- |          |                                                                                  | bricks; every turn of a call; stops          |
+-- | `note`   | what a brick noted is in the books; nothing is noted of what is pending; an      | Prepare (nothing is noted of it, by `talk`), |
+-- |          | attempt is pending once                                                          | all that note an outcome                     |
+-- | `apart`  | a key has one pending attempt                                                    | Prepare's test                               |
+-- | `calls`  | open attempts are their library's, differ, are below `next`, and have the books' | every turn of a call, an input of a call     |
+-- |          | members, each once; attempts yet to come have none and aren't decided            |                                              |
+-- | `decide` | a decided attempt is prepared or committed at each live member, none is told to  | votes; Commit; what a resolver decides       |
+-- |          | abort it, and its library commits it or has done so; a noted commit was decided  |                                              |
+-- | `kept`   | of an attempt that is open, trimming dropped no outcome                          | Prepare (its bound), a call's new attempts   |
 
 -- a library and a member that it doesn't know as stopped
 pub record Meeting (n : Net) (t : Txn) (m : ℕ) (l : LibraryState) (s : BrickState) : Type 0 where
@@ -41,20 +41,20 @@ Conversation n b t m l s =
     IsTalk (not l.stopped) (not s.stopped) (has_node s.known t.library) (view l (b.list t) t m) (asks t (n.channel t.library m))
     (at s.locks.pending (b.noted m t) t) (says t (n.channel m t.library))
 
-abbrev pub TALK : Net → Books → Type 0
-TALK n b = (t : Txn) (m : ℕ) (l : LibraryState) (s : BrickState) → Meeting n t m l s → Conversation n b t m l s
+abbrev pub AllTalk : Net → Books → Type 0
+AllTalk n b = (t : Txn) (m : ℕ) (l : LibraryState) (s : BrickState) → Meeting n t m l s → Conversation n b t m l s
 
--- NOTE, LOCK, of one brick
+-- `note`, `apart`, of one brick
 pub record BrickOk (noted : Txn → Option Bool) (s : BrickState) : Type 0 where
   pub agrees : (t : Txn) → noting s.locks.outcomes noted t ≡ noted t
   pub free : (t : Txn) → is_pending s.locks.pending t ≡ true → noted t ≡ None
   pub once : Once s.locks.pending
   pub apart : IsApart s.locks.pending
 
-abbrev pub NOTE : Net → Books → Type 0
-NOTE n b = (k : ℕ) (s : BrickState) → n.node k ≡ a_brick s → BrickOk (b.noted k) s
+abbrev pub AllNote : Net → Books → Type 0
+AllNote n b = (k : ℕ) (s : BrickState) → n.node k ≡ a_brick s → BrickOk (b.noted k) s
 
--- CALLS, of one library
+-- `calls`, of one library
 abbrev pub IsFor : List ℕ → Phase → Type 0
 IsFor list (Preparing leaf members waiting) = members ≡ list
 IsFor list (Committing leaf members waiting was) = members ≡ list
@@ -74,15 +74,15 @@ pub record LibraryOk (z : Sizes) (b : Books) (k : ℕ) (s : LibraryState) : Type
   pub undecided : (t : Txn) → t.library ≡ k → s.next ≤ t.number → b.decided t ≡ false
   pub groups : (t : Txn) → t.library ≡ k → IsGroup z (b.list t)
 
-abbrev pub CALLS : Sizes → Net → Books → Type 0
-CALLS z n b = (k : ℕ) (s : LibraryState) → n.node k ≡ a_library s → LibraryOk z b k s
+abbrev pub AllCall : Sizes → Net → Books → Type 0
+AllCall z n b = (k : ℕ) (s : LibraryState) → n.node k ≡ a_library s → LibraryOk z b k s
 
 -- what follows of a live member from a decided commit
 abbrev pub SureAt : At → Type 0
-SureAt N = ⊥
-SureAt P = Unit {0}
-SureAt C = Unit {0}
-SureAt A = ⊥
+SureAt Unprepared = ⊥
+SureAt Prepared = Unit {0}
+SureAt Committed = Unit {0}
+SureAt Aborted = ⊥
 
 abbrev pub NoAbort : List Ask → Type 0
 NoAbort [] = Unit {0}
@@ -92,12 +92,12 @@ NoAbort (abort ∷ xs) = ⊥
 
 abbrev pub SureView : View → Type 0
 SureView New = ⊥
-SureView Pw = ⊥
-SureView Pv = ⊥
-SureView Cw = Unit {0}
-SureView Ca = Unit {0}
-SureView Aw = ⊥
-SureView Aa = ⊥
+SureView VoteDue = ⊥
+SureView VoteHeard = ⊥
+SureView CommitDue = Unit {0}
+SureView CommitHeard = Unit {0}
+SureView AbortDue = ⊥
+SureView AbortHeard = ⊥
 SureView Past = Unit {0}
 SureView Off = ⊥
 
@@ -116,22 +116,22 @@ pub record Decided (n : Net) (b : Books) (t : Txn) (m : ℕ) (l : LibraryState) 
 abbrev pub IsSure : Net → Books → Txn → ℕ → LibraryState → BrickState → Type 0
 IsSure n b t m l s = Sure (not l.stopped) (view l (b.list t) t m) (asks t (n.channel t.library m)) (at s.locks.pending (b.noted m t) t)
 
-abbrev pub DECIDE : Net → Books → Type 0
-DECIDE n b = (t : Txn) (m : ℕ) (l : LibraryState) (s : BrickState) → Decided n b t m l s → IsSure n b t m l s
+abbrev pub AllDecide : Net → Books → Type 0
+AllDecide n b = (t : Txn) (m : ℕ) (l : LibraryState) (s : BrickState) → Decided n b t m l s → IsSure n b t m l s
 
-abbrev pub NOTED : Books → Type 0
-NOTED b = (k : ℕ) (t : Txn) → b.noted k t ≡ Some true → b.decided t ≡ true
+abbrev pub NotedAsDecided : Books → Type 0
+NotedAsDecided b = (k : ℕ) (t : Txn) → b.noted k t ≡ Some true → b.decided t ≡ true
 
--- KEPT: of a live brick, and of an attempt that is open at its library, live or not
-abbrev pub KEPT : Net → Books → Type 0
-KEPT n b =
+-- `kept`: of a live brick, and of an attempt that is open at its library, live or not
+abbrev pub AllKeep : Net → Books → Type 0
+AllKeep n b =
     (t : Txn) (m : ℕ) (l : LibraryState) (s : BrickState) → n.node t.library ≡ a_library l → n.node m ≡ a_brick s → s.stopped ≡ false
     → is_open l t ≡ true → b.noted m t ≡ get s.locks.outcomes t
 
 pub record Commit (z : Sizes) (n : Net) (b : Books) : Type 0 where
-  pub talk : TALK n b
-  pub note : NOTE n b
-  pub calls : CALLS z n b
-  pub decide : DECIDE n b
-  pub noted : NOTED b
-  pub kept : KEPT n b
+  pub talk : AllTalk n b
+  pub note : AllNote n b
+  pub calls : AllCall z n b
+  pub decide : AllDecide n b
+  pub noted : NotedAsDecided b
+  pub kept : AllKeep n b

@@ -19,10 +19,10 @@ use Rattle.dds_states.specs.declared.library_state.Phase.{Phase}
 use Rattle.dds_states.specs.declared.library_state.Phase.TheVariants.{Getting, Preparing, Committing, Aborting, Asking}
 use Rattle.dds_net.specs.Net.{Sizes, is_in}
 use Rattle.dds_talk.specs.Table.{View, Ask, Say, At}
-use Rattle.dds_talk.specs.Table.View.{New, Pw, Pv, Cw, Ca, Aw, Aa, Past, Off}
+use Rattle.dds_talk.specs.Table.View.{New, VoteDue, VoteHeard, CommitDue, CommitHeard, AbortDue, AbortHeard, Past, Off}
 use Rattle.dds_talk.specs.Table.Ask.{prepare, commit, abort}
 use Rattle.dds_talk.specs.Table.Say.{yes, no, applied, aborted}
-use Rattle.dds_talk.specs.Table.At.{N, P, C, A}
+use Rattle.dds_talk.specs.Table.At.{Unprepared, Prepared, Committed, Aborted}
 
 -- what a letter asks a member, or says to a library, and of which attempt
 abbrev pub asked : Letter → Option (Txn × Ask)
@@ -62,10 +62,10 @@ says t ls = about said t ls
 
 -- how far an attempt is at a brick, by whether it is pending there and by the outcome that the brick noted of it
 abbrev pub at_of : Bool → Option Bool → At
-at_of true noted = P
-at_of false None = N
-at_of false (Some true) = C
-at_of false (Some false) = A
+at_of true noted = Prepared
+at_of false None = Unprepared
+at_of false (Some true) = Committed
+at_of false (Some false) = Aborted
 
 abbrev pub is_pending : List Pending → Txn → Bool
 is_pending ps t = is_some (first_of ps t)
@@ -80,9 +80,9 @@ noting m noted t = first_some (get m t) (noted t)
 -- how a library sees a member of an attempt with these members
 abbrev pub phase_view : ℕ → Phase → View
 phase_view m (Getting leaf brick) = Past
-phase_view m (Preparing leaf list waiting) = if has waiting m then Pw else Pv
-phase_view m (Committing leaf list waiting was) = if has waiting m then Cw else Ca
-phase_view m (Aborting waiting why brick) = if has waiting m then Aw else Aa
+phase_view m (Preparing leaf list waiting) = if has waiting m then VoteDue else VoteHeard
+phase_view m (Committing leaf list waiting was) = if has waiting m then CommitDue else CommitHeard
+phase_view m (Aborting waiting why brick) = if has waiting m then AbortDue else AbortHeard
 phase_view m (Asking waiting newest met) = Past
 
 abbrev pub call_view : ℕ → Option OpenCall → View

@@ -3,7 +3,5 @@
 
 pub mod line_text;
 pub mod report_line;
-#[cfg(test)]
-mod tests;
 mod text_pieces;
 pub mod write_lines;

@@ -41,19 +41,19 @@ pub fn line_text(alloc: Global, line: &ReportLine) -> Result<Text, Memory>
     ensures { IfOk result (λ text. text ≡ words_text line.now) }
 {
     let mut bytes = Vec::new(alloc);
-    put_words(alloc, &mut bytes, line)?;
+    put_words(&mut bytes, line)?;
     Ok(Text { bytes })
 }
 
 /// Adds the line's text with its LF.
-pub fn put_line(alloc: Global, text: &mut Vec<u8>, line: &ReportLine) -> Result<(), Memory>
+pub fn put_line(text: &mut Vec<u8>, line: &ReportLine) -> Result<(), Memory>
     ensures { OnOk result (text.new.items ≡ text.old.items ++ line_text line.now) }
 {
-    put_words(alloc, text, line)?;
+    put_words(text, line)?;
     put(text, b"\n")
 }
 
-fn put_words(alloc: Global, text: &mut Vec<u8>, line: &ReportLine) -> Result<(), Memory>
+fn put_words(text: &mut Vec<u8>, line: &ReportLine) -> Result<(), Memory>
     ensures { OnOk result (text.new.items ≡ text.old.items ++ words_text line.now) }
 {
     match line {
@@ -62,29 +62,29 @@ fn put_words(alloc: Global, text: &mut Vec<u8>, line: &ReportLine) -> Result<(),
             call,
             reply,
         } => {
-            put_call(alloc, text, *caller, *call)?;
+            put_call(text, *caller, *call)?;
             put(text, b" ")?;
-            put_reply(alloc, text, reply)
+            put_reply(text, reply)
         }
         ReportLine::Busy { caller, call } => {
-            put_call(alloc, text, *caller, *call)?;
+            put_call(text, *caller, *call)?;
             put(text, b" busy")
         }
         ReportLine::OrderAnswer { kind, brick, reply } => {
-            put_order(alloc, text, *kind, *brick)?;
+            put_order(text, *kind, *brick)?;
             put(text, b" ")?;
-            put_order_reply(alloc, text, *reply)
+            put_order_reply(text, *reply)
         }
-        ReportLine::Quiet { events } => put_count(alloc, text, b"quiet ", *events),
+        ReportLine::Quiet { events } => put_count(text, b"quiet ", *events),
         ReportLine::Loud => put(text, b"loud 1000000"),
-        ReportLine::Events { events } => put_count(alloc, text, b"events ", *events),
+        ReportLine::Events { events } => put_count(text, b"events ", *events),
         ReportLine::NoPost => put(text, b"post no"),
         ReportLine::NoTake => put(text, b"take no"),
         ReportLine::BrickStopped { brick } => {
-            put_brick(alloc, text, *brick)?;
+            put_brick(text, *brick)?;
             put(text, b" stopped")
         }
-        ReportLine::BrickUp { brick, pending } => put_up(alloc, text, *brick, *pending),
+        ReportLine::BrickUp { brick, pending } => put_up(text, *brick, *pending),
         ReportLine::BrickLeaf {
             brick,
             name,
@@ -92,43 +92,42 @@ fn put_words(alloc: Global, text: &mut Vec<u8>, line: &ReportLine) -> Result<(),
             pairs,
             list,
         } => {
-            put_brick(alloc, text, *brick)?;
+            put_brick(text, *brick)?;
             put(text, b" ")?;
-            put_leaf(alloc, text, *name, *epoch, *pairs, *list)
+            put_leaf(text, *name, *epoch, *pairs, *list)
         }
         ReportLine::OpenCall { caller, call } => {
             put(text, b"open ")?;
-            put_call(alloc, text, *caller, *call)
+            put_call(text, *caller, *call)
         }
         ReportLine::OpenOrder { kind, brick } => {
             put(text, b"open ")?;
-            put_order(alloc, text, *kind, *brick)
+            put_order(text, *kind, *brick)
         }
-        ReportLine::History { entries } => put_count(alloc, text, b"history ", *entries),
+        ReportLine::History { entries } => put_count(text, b"history ", *entries),
         ReportLine::Count { what, number } => {
             put_counted(text, *what)?;
-            put_count(alloc, text, b" ", *number)
+            put_count(text, b" ", *number)
         }
         ReportLine::End => put(text, b"end"),
     }
 }
 
-fn put_count(alloc: Global, text: &mut Vec<u8>, words: &[u8], number: u64) -> Result<(), Memory>
+fn put_count(text: &mut Vec<u8>, words: &[u8], number: u64) -> Result<(), Memory>
     ensures { OnOk result (text.new.items ≡ text.old.items ++ (words.now ++ decimal number)) }
 {
     put(text, words)?;
-    put_number(alloc, text, number)
+    put_number(text, number)
 }
 
-fn put_up(alloc: Global, text: &mut Vec<u8>, brick: NodeNo, pending: u64) -> Result<(), Memory>
+fn put_up(text: &mut Vec<u8>, brick: NodeNo, pending: u64) -> Result<(), Memory>
     ensures { OnOk result (text.new.items ≡ text.old.items ++ up_text brick pending) }
 {
-    put_brick(alloc, text, brick)?;
-    put_count(alloc, text, b" up pending ", pending)
+    put_brick(text, brick)?;
+    put_count(text, b" up pending ", pending)
 }
 
 fn put_leaf(
-    alloc: Global,
     text: &mut Vec<u8>,
     name: LeafName,
     epoch: u64,
@@ -138,14 +137,14 @@ fn put_leaf(
     ensures { OnOk result (text.new.items ≡ text.old.items ++ leaf_text name epoch pairs list) }
 {
     put(text, b"leaf ")?;
-    put_name(alloc, text, name)?;
-    put_count(alloc, text, b" epoch ", epoch)?;
-    put_count(alloc, text, b" pairs ", pairs)?;
+    put_name(text, name)?;
+    put_count(text, b" epoch ", epoch)?;
+    put_count(text, b" pairs ", pairs)?;
     put(text, b" list ")?;
-    put_list(alloc, text, list)
+    put_list(text, list)
 }
 
-fn put_reply(alloc: Global, text: &mut Vec<u8>, reply: &Reply) -> Result<(), Memory>
+fn put_reply(text: &mut Vec<u8>, reply: &Reply) -> Result<(), Memory>
     ensures { OnOk result (text.new.items ≡ text.old.items ++ reply_text reply.now) }
 {
     match reply {
@@ -160,70 +159,65 @@ fn put_reply(alloc: Global, text: &mut Vec<u8>, reply: &Reply) -> Result<(), Mem
         Reply::Swapped { done: false } => put(text, b"swapped no"),
         Reply::Again(met) => {
             put(text, b"again ")?;
-            put_met(alloc, text, *met)
+            put_met(text, *met)
         }
         Reply::Full { brick } => {
             put(text, b"full ")?;
-            put_brick(alloc, text, *brick)
+            put_brick(text, *brick)
         }
         Reply::Lost { name } => {
             put(text, b"lost ")?;
-            put_name(alloc, text, *name)
+            put_name(text, *name)
         }
     }
 }
 
-fn put_met(alloc: Global, text: &mut Vec<u8>, met: Met) -> Result<(), Memory>
+fn put_met(text: &mut Vec<u8>, met: Met) -> Result<(), Memory>
     ensures { OnOk result (text.new.items ≡ text.old.items ++ met_text met) }
 {
     match met {
         Met::Lease { brick } => {
             put(text, b"lease ")?;
-            put_brick(alloc, text, brick)
+            put_brick(text, brick)
         }
         Met::Lock { brick } => {
             put(text, b"lock ")?;
-            put_brick(alloc, text, brick)
+            put_brick(text, brick)
         }
         Met::Stale { brick } => {
             put(text, b"stale ")?;
-            put_brick(alloc, text, brick)
+            put_brick(text, brick)
         }
         Met::Stopped { brick } => {
             put(text, b"stopped ")?;
-            put_brick(alloc, text, brick)
+            put_brick(text, brick)
         }
     }
 }
 
-fn put_order(
-    alloc: Global,
-    text: &mut Vec<u8>,
-    kind: OrderKind,
-    brick: NodeNo,
-) -> Result<(), Memory>
+fn put_order(text: &mut Vec<u8>, kind: OrderKind, brick: NodeNo) -> Result<(), Memory>
     ensures { OnOk result (text.new.items ≡ text.old.items ++ order_text kind brick) }
 {
     match kind {
         OrderKind::Join => {
             put(text, b"join ")?;
-            put_brick(alloc, text, brick)
+            put_brick(text, brick)
         }
         OrderKind::Split => {
             put(text, b"split ")?;
-            put_brick(alloc, text, brick)
+            put_brick(text, brick)
         }
     }
 }
 
-fn put_order_reply(alloc: Global, text: &mut Vec<u8>, reply: OrderReply) -> Result<(), Memory>
+fn put_order_reply(text: &mut Vec<u8>, reply: OrderReply) -> Result<(), Memory>
     ensures { OnOk result (text.new.items ≡ text.old.items ++ order_reply_text reply) }
 {
     match reply {
         OrderReply::Done => put(text, b"done"),
         OrderReply::Refused(met) => {
             put(text, b"refused ")?;
-            put_met(alloc, text, met)
+            put_met(text, met)
         }
         OrderReply::GroupFull => put(text, b"groupfull"),
         OrderReply::AlreadyThere => put(text, b"alreadythere"),

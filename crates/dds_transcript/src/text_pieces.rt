@@ -11,7 +11,7 @@ use dds_base::brick_list::BrickList;
 use dds_base::memory::Memory;
 use dds_base::name::LeafName;
 use dds_base::number::{CallNo, CallerNo, NodeNo};
-use std::alloc::Global;
+use itoa::Buffer;
 
 pub fn put(text: &mut Vec<u8>, words: &[u8]) -> Result<(), Memory>
     ensures { OnOk result (text.new.items ≡ text.old.items ++ words.now) }
@@ -20,48 +20,43 @@ pub fn put(text: &mut Vec<u8>, words: &[u8]) -> Result<(), Memory>
     Ok(())
 }
 
-pub fn put_number(alloc: Global, text: &mut Vec<u8>, number: u64) -> Result<(), Memory>
+pub fn put_number(text: &mut Vec<u8>, number: u64) -> Result<(), Memory>
     ensures { OnOk result (text.new.items ≡ text.old.items ++ decimal number) }
 {
-    let digits = number.to_string(alloc)?;
-    put(text, digits.as_bytes())
+    let mut digits = Buffer::new();
+    put(text, digits.format(number).as_bytes())
 }
 
-pub fn put_brick(alloc: Global, text: &mut Vec<u8>, brick: NodeNo) -> Result<(), Memory>
+pub fn put_brick(text: &mut Vec<u8>, brick: NodeNo) -> Result<(), Memory>
     ensures { OnOk result (text.new.items ≡ text.old.items ++ brick_text brick) }
 {
     put(text, b"b")?;
-    put_number(alloc, text, u64::from(brick.number()))
+    put_number(text, u64::from(brick.number()))
 }
 
-pub fn put_name(alloc: Global, text: &mut Vec<u8>, name: LeafName) -> Result<(), Memory>
+pub fn put_name(text: &mut Vec<u8>, name: LeafName) -> Result<(), Memory>
     ensures { OnOk result (text.new.items ≡ text.old.items ++ name_text name) }
 {
-    put_number(alloc, text, u64::from(name.bits()))?;
+    put_number(text, u64::from(name.bits()))?;
     put(text, b"/")?;
-    put_number(alloc, text, u64::from(name.depth()))
+    put_number(text, u64::from(name.depth()))
 }
 
-pub fn put_call(
-    alloc: Global,
-    text: &mut Vec<u8>,
-    caller: CallerNo,
-    call: CallNo,
-) -> Result<(), Memory>
+pub fn put_call(text: &mut Vec<u8>, caller: CallerNo, call: CallNo) -> Result<(), Memory>
     ensures { OnOk result (text.new.items ≡ text.old.items ++ call_text caller call) }
 {
-    put_number(alloc, text, u64::from(caller.number()))?;
+    put_number(text, u64::from(caller.number()))?;
     put(text, b".")?;
-    put_number(alloc, text, u64::from(call.0))
+    put_number(text, u64::from(call.0))
 }
 
-pub fn put_list(alloc: Global, text: &mut Vec<u8>, list: BrickList) -> Result<(), Memory>
+pub fn put_list(text: &mut Vec<u8>, list: BrickList) -> Result<(), Memory>
     ensures { OnOk result (text.new.items ≡ text.old.items ++ list_text list) }
 {
-    put_number(alloc, text, u64::from(list.at(0).number()))?;
+    put_number(text, u64::from(list.at(0).number()))?;
     for place in 1..list.len() {
         put(text, b",")?;
-        put_number(alloc, text, u64::from(list.at(place).number()))?;
+        put_number(text, u64::from(list.at(place).number()))?;
     }
     Ok(())
 }

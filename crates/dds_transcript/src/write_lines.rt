@@ -34,7 +34,7 @@ pub fn write_lines<K: Sink>(
 {
     let mut text = Vec::new(alloc);
     for line in lines {
-        match put_line(alloc, &mut text, line) {
+        match put_line(&mut text, line) {
             Ok(()) => {}
             Err(Memory) => return Err(WriteEnd::Memory),
         }

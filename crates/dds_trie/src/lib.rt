@@ -4,6 +4,4 @@
 mod leaves;
 mod nodes;
 mod sorted;
-#[cfg(test)]
-mod tests;
 pub mod trie;

@@ -19,7 +19,7 @@ use dds_base::number::{CallNo, CallerNo, NodeNo};
 use dds_base::op::{Op, Order};
 use dds_cluster::possible::is_possible;
 use dds_cluster::queue::Queue;
-use dds_cluster::step::{Input, Step};
+use dds_cluster::step::{BoxedInput, Input, Step};
 use dds_cluster::trace::Caller;
 use dds_script::line::Line;
 use dds_transcript::report_line::ReportLine;
@@ -94,7 +94,7 @@ fn order_line(alloc: Global, walk: &mut Walk, brick: NodeNo, order: Order) -> Re
 {
     let step = Step::Input {
         node: brick,
-        input: Input::Order(order),
+        input: BoxedInput::new(alloc, Input::Order(order))?,
     };
     attempt(alloc, walk, step)
 }
@@ -162,7 +162,7 @@ fn call_alone(
     let op = op.copy()?;
     let step = Step::Input {
         node: state.library,
-        input: Input::Call { caller, call, op },
+        input: BoxedInput::new(alloc, Input::Call { caller, call, op })?,
     };
     play(alloc, walk, step)
 }

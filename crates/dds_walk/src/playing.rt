@@ -55,7 +55,7 @@ fn note_possible(orders: &mut Items<Option<OrderKind>>, answered: bool, step: &S
     ensures { orders.new ≡ orders_by orders.old answered step.now }
 {
     match step {
-        Step::Input { node, input } => note_input(orders, *node, answered, input),
+        Step::Input { node, input } => note_input(orders, *node, answered, input.as_input()),
         Step::Handle { node, from: _ } => {
             if answered {
                 set_order(orders, *node, None);
@@ -97,7 +97,7 @@ fn kind_at(orders: &[Option<OrderKind>], step: &Step) -> Option<OrderKind>
     ensures { result ≡ kind_at orders.now step.now }
 {
     match step {
-        Step::Input { node: _, input } => kind_in(input),
+        Step::Input { node: _, input } => kind_in(input.as_input()),
         Step::Handle { node, from: _ } => kind_of_brick(orders, *node),
         _ => None,
     }

@@ -15,7 +15,7 @@ use dds_base::items::Items;
 use dds_base::memory::Memory;
 use dds_base::number::{CallNo, CallerNo, NodeNo};
 use dds_cluster::queue::Queue;
-use dds_cluster::step::{EVENTS, Input, Journal, Step};
+use dds_cluster::step::{BoxedInput, EVENTS, Input, Journal, Step};
 use dds_cluster::told_list::ToldList;
 use dds_cluster::trace::{Caller, Made};
 use dds_script::opening::Script;
@@ -120,18 +120,18 @@ fn queue_of(alloc: Global, steps: &[Step]) -> Result<Queue<Step>, Memory>
 {
     let mut queue = Queue::new(alloc);
     for step in steps {
-        queue.push(copy_step(step)?)?;
+        queue.push(copy_step(alloc, step)?)?;
     }
     Ok(queue)
 }
 
-fn copy_step(step: &Step) -> Result<Step, Memory>
+fn copy_step(alloc: Global, step: &Step) -> Result<Step, Memory>
     ensures { IfOk result (λ copy. copy ≡ step.now) }
 {
     Ok(match step {
         Step::Input { node, input } => Step::Input {
             node: *node,
-            input: copy_input(input)?,
+            input: BoxedInput::new(alloc, copy_input(input.as_input())?)?,
         },
         Step::Handle { node, from } => Step::Handle {
             node: *node,

@@ -74,7 +74,7 @@ pub fn same_step(step: &Step, other: &Step) -> bool
 {
     match (step, other) {
         (Step::Input { node: a, input: i }, Step::Input { node: b, input: j }) => {
-            *a == *b && same_input(i, j)
+            *a == *b && same_input(i.as_input(), j.as_input())
         }
         (
             Step::Handle { node: a, from },
@@ -142,7 +142,7 @@ pub fn makes_call(step: &Step, caller: CallerNo, call: CallNo) -> bool
     ensures { result ≡ makes_call caller call step.now }
 {
     match step {
-        Step::Input { node: _, input } => is_input_of(input, caller, call),
+        Step::Input { node: _, input } => is_input_of(input.as_input(), caller, call),
         _ => false,
     }
 }

@@ -144,8 +144,7 @@ pub record MetStopped (o : OpeningOf) (journal : List Step) (a : Asked) (told : 
       ≡ true
   pub stops : StopsBefore journal told.place brick
 
--- a call answered Again met what its answer says. Proved of runs of the first opening without stops and orders alone, in
--- which no call is answered Again for a stopped member.
+-- a call answered Again met what its answer says. README.md says of which runs that is proved.
 abbrev pub MetBy : OpeningOf → List Step → Asked → Told → Met → Type 0
 MetBy o journal a told (met.Lease brick) = MetLease o journal a told brick
 MetBy o journal a told (met.Lock brick) = MetLock o journal a told brick

@@ -1,4 +1,5 @@
--- Leaves with one name and stamp are one leaf, which is proved of every run; and the bricks that serve a key list each other, which isn't yet.
+-- Leaves with one name and stamp are one leaf, which is proved of every run; and the bricks that serve a key list each other, which isn't
+-- proved yet, but that each pending transaction lies under a leaf (`covered`).
 use Rattle.std.specs.Prelude.{ℕ, ◌≡◌, ◌⊎◌, true, List, Option, Some, None, is_some, slice_get}
 use Rattle.std.specs.FinMap.{get}
 use Rattle.dds_base.specs.BrickList.{has}

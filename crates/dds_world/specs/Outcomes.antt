@@ -1,5 +1,5 @@
--- Every transaction has one outcome, which reaches all its members, which is proved of every run; and of a call's attempts the last alone is
--- applied or pending, which isn't proved yet.
+-- Every transaction has one outcome, which reaches all its members; and of a call's attempts the last alone is applied or pending. Proved of
+-- every run.
 use Rattle.std.specs.Prelude.{ℕ, ◌≡◌, ◌≤◌, ◌⊎◌, Bool, true, false, List, Option, Some, is_some, slice_get}
 use Rattle.std.specs.FinMap.{get}
 use Rattle.dds_base.specs.BrickList.{has}

@@ -14,7 +14,8 @@ returns-then-is_repeated c =
     let d : Entry = record { number = 0; slot = Outbox 0 } in
     let h = c.is_repeated.ensures d in
     let t = c.if-is_repeated.true in
-    ranked-missed d c.args.entries.now c.args.rank c.requires (grind (arith, nat_tests, h, t)) (omega (arith, c.if-rank-entries.false)) (grind (arith, nat_tests, h, t))
+    ranked-missed d c.args.entries.now c.args.rank c.requires (grind (arith, nat_tests, h, t)) (omega (arith, c.if-rank-entries.false))
+    (grind (arith, nat_tests, h, t))
 
 pub returns : goal.returns
 returns c =

@@ -5,7 +5,8 @@ use Rattle.dds_base.proofs.sink.write_all.Goals as goal
 
 pub writing-preserved : goal.writing-preserved
 writing-preserved g c =
-    let rest : take (length c.args.text.now - c.writing.at) (drop c.writing.at c.args.text.now) ≡ drop c.writing.at c.args.text.now = grind (arith, common_steps) in
+    let rest : take (length c.args.text.now - c.writing.at) (drop c.writing.at c.args.text.now) ≡ drop c.writing.at c.args.text.now =
+    grind (arith, common_steps) in
     record {
       within = grind (arith, common_steps);
       added = added-at _ _ _ c.args.text.now _ c.writing.at c.in-Ok.n rest c.writing.invariant.added c.in-Ok.ensures.added;

@@ -6,4 +6,5 @@ pub returns-in-Ok-clause-index : goal.returns-in-Ok-clause-index
 returns-in-Ok-clause-index g c = made-index _ c.in_ok-no_buckets.ensures refl
 
 pub returns-in-Ok-clause-told : goal.returns-in-Ok-clause-told
-returns-in-Ok-clause-told g c = λ a is. table-made a _ _ _ _ _ _ c.in_ok-no_buckets.ensures refl c.in_ok-root.ensures.number (c.in-Ok.ensures.told a (ap (λ k. g.D.Disk.pages k.disk) c.in_ok-root.ensures.cache ∙ is))
+returns-in-Ok-clause-told g c = λ a is. table-made a _ _ _ _ _ _ c.in_ok-no_buckets.ensures refl c.in_ok-root.ensures.number
+    (c.in-Ok.ensures.told a (ap (λ k. g.D.Disk.pages k.disk) c.in_ok-root.ensures.cache ∙ is))

@@ -6,4 +6,8 @@ pub returns-in-Ok-clause-read : goal.returns-in-Ok-clause-read
 returns-in-Ok-clause-read c = bucket-accepted c.args.bytes.now c.in-Ok.bucket c.in-Ok.ensures.verdict
 
 pub returns-in-Err-NotAPage-clause-read : goal.returns-in-Err-NotAPage-clause-read
-returns-in-Err-NotAPage-clause-read c = (refl, bucket-refused c.args.bytes.now c.in-Err-NotAPage.field-0 _ c.in-Err-NotAPage.field-0-is c.in-Err-NotAPage.ensures.verdict)
+returns-in-Err-NotAPage-clause-read c = (
+  refl,
+  bucket-refused c.args.bytes.now c.in-Err-NotAPage.field-0 _ c.in-Err-NotAPage.field-0-is
+      c.in-Err-NotAPage.ensures.verdict,
+)

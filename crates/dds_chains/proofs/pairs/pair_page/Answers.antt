@@ -5,4 +5,5 @@ use Rattle.dds_chains.proofs.pairs.pair_page.Goals as goal
 
 pub of-requires : goal.of-requires
 of-requires c =
-    one-fits c.args.key c.args.held c.push.new.self (c.in_ok-push.ensures.ok ∙ ap (λ (ps : List PagePair). ps ++ record { key = c.args.key; held = c.args.held } ∷ []) c.new-pairs.ensures) c.requires
+    one-fits c.args.key c.args.held c.push.new.self (c.in_ok-push.ensures.ok
+    ∙ ap (λ (ps : List PagePair). ps ++ record { key = c.args.key; held = c.args.held } ∷ []) c.new-pairs.ensures) c.requires

@@ -15,8 +15,10 @@ returns-in-Ok-clause-told g c = λ a is h single.
     let next : ℕ = first_page (drop (suc (c.args.place - 1)) c.args.slots.now) in
     let s = stored-at a c.args.slots.now (c.args.place - 1) c.index-slots-place.result h (omega (arith, c.requires.within)) c.index-slots-place.is in
     let small = first-page-small a (drop (suc (c.args.place - 1)) c.args.slots.now) s.1 in
-    bridge-later a c.args.slots.now c.args.place c.index-slots-place.result next c.first_page-after.result s.0 _ small h single c.if-place-eq0.false c.requires.within c.index-slots-place.is (after-is c.args.slots.now c.args.place c.first_page-after.result c.first_page-after.ensures)
-    (c.in-Ok.ensures.told a (record { key = c.index-slots-place.result.key; held = s.0.held } ∷ []) next is (stored-page a c.index-slots-place.result next s.0 small))
+    bridge-later a c.args.slots.now c.args.place c.index-slots-place.result next c.first_page-after.result s.0 _ small h single c.if-place-eq0.false
+    c.requires.within c.index-slots-place.is (after-is c.args.slots.now c.args.place c.first_page-after.result c.first_page-after.ensures)
+    (c.in-Ok.ensures.told a (record { key = c.index-slots-place.result.key; held = s.0.held } ∷ []) next is
+    (stored-page a c.index-slots-place.result next s.0 small))
 
 pub returns-in-Err-clause-lawful : goal.returns-in-Err-clause-lawful
 returns-in-Err-clause-lawful g c = λ a is h.
@@ -26,4 +28,5 @@ returns-in-Err-clause-lawful g c = λ a is h.
     c.in-Err.ensures.lawful a _ is (stored-page a c.index-slots-place.result next s.0 small)
 
 pub returns-in-Err-clause-refused : goal.returns-in-Err-clause-refused
-returns-in-Err-clause-refused g c = chain-silent _ c.args.slots.now (c.args.place - 1) c.index-slots-place.result c.in-Err.fault (omega (arith, c.requires.within)) c.index-slots-place.is c.in-Err.ensures.refused
+returns-in-Err-clause-refused g c = chain-silent _ c.args.slots.now (c.args.place - 1) c.index-slots-place.result c.in-Err.fault
+    (omega (arith, c.requires.within)) c.index-slots-place.is c.in-Err.ensures.refused

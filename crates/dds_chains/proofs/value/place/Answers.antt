@@ -9,4 +9,5 @@ returns-clause-held g c =
     (some, c.bytes-bytes.ensures.range, subst (λ (n : ℕ). n < 2 ^ 64 - 1) (sym c.first_of-first.ensures) first)
 
 pub returns-clause-told : goal.returns-clause-told
-returns-clause-told g c = λ a is. chain-placed a _ _ _ _ c.bytes-bytes.result.now c.args.value.now _ (c.in_ok-overflow.ensures.told a is) c.first_of-first.ensures c.in_ok-overflow.ensures.few c.bytes-bytes.ensures.value
+returns-clause-told g c = λ a is. chain-placed a _ _ _ _ c.bytes-bytes.result.now c.args.value.now _ (c.in_ok-overflow.ensures.told a is)
+    c.first_of-first.ensures c.in_ok-overflow.ensures.few c.bytes-bytes.ensures.value

@@ -1,7 +1,9 @@
+use Rattle.std.proofs.Common.{subst}
 use Rattle.dds_cli.proofs.Standing.{ran-ok}
+use Rattle.dds_script.specs.Opening.{IsOpening}
 use Rattle.dds_cli.proofs.steps.run.Goals as goal
 
 pub returns-clause-ran : goal.returns-clause-ran
 returns-clause-ran c =
-    ran-ok _ c.args.script.now _ c.runs_stand.ensures c.answers_are_caused.ensures c.steps_are_plain.ensures
-    c.walk_script.ensures.journal c.walk_script.ensures.run
+    ran-ok _ c.args.script.now _ c.runs_stand.ensures c.all_answers_are_caused.ensures c.calls_are_kept.ensures c.steps_are_plain.ensures
+    (subst IsOpening c.opening.ensures.value c.ranges-ranges.ensures.kept) c.walk_script.ensures.journal c.walk_script.ensures.run

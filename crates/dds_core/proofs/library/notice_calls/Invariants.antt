@@ -6,5 +6,7 @@ use Rattle.dds_core.proofs.library.notice_calls.Given as goal
 
 abbrev pub invariant-loop-txn : goal.invariant-loop-txn
 invariant-loop-txn l =
-    ((notice_calls l.state l.node (into_iter_items l.txn-iterator)).state ≡ (notice_calls l.initial.state l.node (into_iter_items l.initial.txn-iterator)).state) ×
-    (both l.turn (notice_calls l.state l.node (into_iter_items l.txn-iterator)).out ≡ (notice_calls l.initial.state l.node (into_iter_items l.initial.txn-iterator)).out)
+    ((notice_calls l.state l.node (into_iter_items l.txn-iterator)).state
+    ≡ (notice_calls l.initial.state l.node (into_iter_items l.initial.txn-iterator)).state) ×
+    (both l.turn (notice_calls l.state l.node (into_iter_items l.txn-iterator)).out
+    ≡ (notice_calls l.initial.state l.node (into_iter_items l.initial.txn-iterator)).out)

@@ -6,5 +6,7 @@ use Rattle.dds_core.proofs.notice.asked_all_again.Given as goal
 
 abbrev pub invariant-loop-letter : goal.invariant-loop-letter
 invariant-loop-letter l =
-    ((asked_all_again l.state (into_iter_items l.letter-iterator)).state ≡ (asked_all_again l.initial.state (into_iter_items l.initial.letter-iterator)).state) ×
-    (both l.turn (asked_all_again l.state (into_iter_items l.letter-iterator)).out ≡ (asked_all_again l.initial.state (into_iter_items l.initial.letter-iterator)).out)
+    ((asked_all_again l.state (into_iter_items l.letter-iterator)).state ≡ (asked_all_again l.initial.state (into_iter_items l.initial.letter-iterator)).state)
+    ×
+    (both l.turn (asked_all_again l.state (into_iter_items l.letter-iterator)).out
+    ≡ (asked_all_again l.initial.state (into_iter_items l.initial.letter-iterator)).out)

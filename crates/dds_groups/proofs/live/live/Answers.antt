@@ -12,8 +12,10 @@ push_live-requires-clause-room c =
 
 pub push_live-requires-clause-new : goal.push_live-requires-clause-new
 push_live-requires-clause-new c =
-    rw (c.loop-place.invariant, c.at.ensures.value) (live-new c.args.list.now c.loop-place.place (has_node c.args.known.now) c.len-place-end.ensures.bricks (omega arith))
+    rw (c.loop-place.invariant, c.at.ensures.value) (live-new c.args.list.now c.loop-place.place (has_node c.args.known.now) c.len-place-end.ensures.bricks
+    (omega arith))
 
 pub loop-place-preserved : goal.loop-place-preserved
 loop-place-preserved c =
-    rw (live-more c.args.list.now c.loop-place.place (has_node c.args.known.now) (omega arith)) (rw (← c.loop-place.invariant, ← c.at.ensures.value) c.push_live.ensures)
+    rw (live-more c.args.list.now c.loop-place.place (has_node c.args.known.now) (omega arith))
+    (rw (← c.loop-place.invariant, ← c.at.ensures.value) c.push_live.ensures)

@@ -9,4 +9,5 @@ overflow_add-sum c =
     omega (arith, d, m, c.loop-leaf.invariant, c.share-sum.ensures.value)
 
 pub returns : goal.returns
-returns c = sum-tells c.args.leaves.now c.loop-leaf.sum c.requires.apart c.requires.placed (omega (arith, c.loop-leaf.invariant, shares-end c.args.leaves.now c.loop-leaf.leaf-index (omega arith)))
+returns c = sum-tells c.args.leaves.now c.loop-leaf.sum c.requires.apart c.requires.placed
+    (omega (arith, c.loop-leaf.invariant, shares-end c.args.leaves.now c.loop-leaf.leaf-index (omega arith)))

@@ -14,4 +14,5 @@ returns-in-None c =
     no-list _ _ c.reading.list.items _ _ _ (omega arith) (rw c.in-Some.is at c.reading.invariant.parts) c.cut_first.ensures n
 
 pub returns : goal.returns
-returns c = list-word _ _ _ (cut_rest 44 c.reading.left) c.reading.invariant.parts (ap (cut_rest 44) c.in_default.is) c.reading.invariant.most c.reading.invariant.below
+returns c = list-word _ _ _ (cut_rest 44 c.reading.left) c.reading.invariant.parts (ap (cut_rest 44) c.in_default.is) c.reading.invariant.most
+    c.reading.invariant.below

@@ -13,4 +13,5 @@ returns-then-starts_with c =
 
 pub returns-else-starts_with : goal.returns-else-starts_with
 returns-else-starts_with c =
-    λ rest e. let t = (starts_is Decides-eqb c.args.text.now c.args.beginning.now _ c.starts_with.ensures.value).1 rest e in absurd (cc (t, c.if-starts_with.false))
+    λ rest e. let t = (starts_is Decides-eqb c.args.text.now c.args.beginning.now _ c.starts_with.ensures.value).1 rest e
+    in absurd (cc (t, c.if-starts_with.false))

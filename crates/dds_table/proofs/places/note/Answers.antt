@@ -13,5 +13,8 @@ returns-then-contains_key c root n =
 pub returns : goal.returns
 returns c root n =
     let ts = named c.args.tables.now in
-    let none : place_named ts c.args.name ≡ None = is-none (place_named ts c.args.name) (sym (ap is_some (c.requires c.args.name)) ∙ sym c.if-contains_key.ensures) in
-    c.in_ok-insert.ensures.updates.0 n ∙ ap (λ b. cond b (Some (length c.args.tables.now)) (tree.get name_cmp c.args.places.now n)) (names-alike c.args.name n) ∙ ap (cond (same_name c.args.name n) (Some (length c.args.tables.now))) (c.requires n) ∙ ap (λ k. cond (same_name c.args.name n) (Some k) (place_named ts n)) (sym (length-named c.args.tables.now)) ∙ note-new ts c.args.name n root none
+    let none : place_named ts c.args.name ≡ None = is-none (place_named ts c.args.name)
+    (sym (ap is_some (c.requires c.args.name)) ∙ sym c.if-contains_key.ensures) in
+    c.in_ok-insert.ensures.updates.0 n ∙ ap (λ b. cond b (Some (length c.args.tables.now)) (tree.get name_cmp c.args.places.now n)) (names-alike c.args.name n)
+    ∙ ap (cond (same_name c.args.name n) (Some (length c.args.tables.now))) (c.requires n)
+    ∙ ap (λ k. cond (same_name c.args.name n) (Some k) (place_named ts n)) (sym (length-named c.args.tables.now)) ∙ note-new ts c.args.name n root none

@@ -11,7 +11,8 @@ invariant-walking g l = record {
   steady : g.E.Disk.faults l.old ≡ g.E.Disk.faults l.fn.old;
   covered : AreCovered l.name l.walk.pairs;
   met : IsMetBy l.walk l.met;
-  ends : (p : Pages) → g.E.Disk.pages l.fn.old ≡ Some p → (k : ℕ) (end : Result (List Pair) ℕ) → walk_in k p l.name l.root.firsts l.walk ≡ Some end → Ends p l.name l.root.firsts (start_of l.page l.root) end;
+  ends : (p : Pages) → g.E.Disk.pages l.fn.old ≡ Some p → (k : ℕ) (end : Result (List Pair) ℕ) → walk_in k p l.name l.root.firsts l.walk ≡ Some end
+      → Ends p l.name l.root.firsts (start_of l.page l.root) end;
 }
 
 abbrev pub decreases-walking : goal.decreases-walking

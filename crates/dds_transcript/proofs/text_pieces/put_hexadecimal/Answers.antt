@@ -8,4 +8,5 @@ loop-byte-preserved c =
     let b = c.in_ok-push.ensures.items in
     let d = c.digit-in-loop-byte.ensures in
     let e = c.in_ok-push-2.ensures.items in
-    hex-text-more c.args.bytes.now c.args.text.now.items c.loop-byte.text.items c.push.new.self.items c.push-in-loop-byte.new.self.items c.loop-byte.byte-index (omega arith) c.loop-byte.invariant (cc) (cc)
+    hex-text-more c.args.bytes.now c.args.text.now.items c.loop-byte.text.items c.push.new.self.items c.push-in-loop-byte.new.self.items c.loop-byte.byte-index
+    (omega arith) c.loop-byte.invariant (cc) (cc)

@@ -17,7 +17,8 @@ loop-line-preserved g c =
 
 pub returns-in-Ok-write_all-clause-whole : goal.returns-in-Ok-write_all-clause-whole
 returns-in-Ok-write_all-clause-whole g c =
-    writing-end _ _ _ _ _ _ _ c.loop-line.invariant.writing (report-end c.args.lines.now c.loop-line.line-index (omega arith)) c.as_slice.ensures.value c.in-Ok-write_all.ensures.whole
+    writing-end _ _ _ _ _ _ _ c.loop-line.invariant.writing (report-end c.args.lines.now c.loop-line.line-index (omega arith)) c.as_slice.ensures.value
+    c.in-Ok-write_all.ensures.whole
 
 pub returns-clause-part : goal.returns-clause-part
 returns-clause-part g c =

@@ -5,4 +5,5 @@ use Rattle.dds_trie.proofs.nodes.+grow.Goals as goal
 
 pub returns-in_err-next-clause-err : goal.returns-in_err-next-clause-err
 returns-in_err-next-clause-err t c =
-    on-err c.from_residual.result _ (none-at c.args.nodes.now c.args.key (c.args.depth + 1) c.args.want c.in_err-next.ensures.err (omega (arith, c.requires.depth, c.if-depth-want.false)))
+    on-err c.from_residual.result _ (none-at c.args.nodes.now c.args.key (c.args.depth + 1) c.args.want c.in_err-next.ensures.err
+    (omega (arith, c.requires.depth, c.if-depth-want.false)))

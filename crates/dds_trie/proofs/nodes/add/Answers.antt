@@ -11,7 +11,9 @@ link c =
     let ns = c.args.nodes.now in
     let from = c.args.from in
     let longer : length ns < length (ns ++ c.bare.result ∷ []) = grind (arith, length-append) in
-    let node : c.at.result.now ≡ get_or ns from blank = c.at.ensures ∙ ap (λ xs. get_or xs from c.at.result.now) c.in_ok-push.ensures.ok ∙ get_or_default (ns ++ c.bare.result ∷ []) from c.at.result.now blank (omega (arith, longer, within)) ∙ get_or_append_left ns (c.bare.result ∷ []) blank from within in
+    let node : c.at.result.now ≡ get_or ns from blank = c.at.ensures ∙ ap (λ xs. get_or xs from c.at.result.now) c.in_ok-push.ensures.ok
+    ∙ get_or_default (ns ++ c.bare.result ∷ []) from c.at.result.now blank (omega (arith, longer, within))
+    ∙ get_or_append_left ns (c.bare.result ∷ []) blank from within in
     record {
       trie = c.requires.trie;
       at = c.requires.from;
@@ -20,7 +22,10 @@ link c =
       low = ap (λ (n : Node). n.low) c.bare.ensures;
       high = ap (λ (n : Node). n.high) c.bare.ensures;
       leaf = ap (λ (n : Node). n.leaf) c.bare.ensures;
-      made = c.replace.ensures.items ∙ ap (λ xs. set xs from c.link.new.node) c.in_ok-push.ensures.ok ∙ ap (set (ns ++ c.bare.result ∷ []) from) (c.link.ensures ∙ ap (λ b. linked_to c.at.result.now b c.len-at.result) c.is_high.ensures ∙ ap (λ (n : Node). linked_to n (is_high c.args.key c.args.depth) c.len-at.result) node ∙ ap (linked_to (get_or ns from blank) (is_high c.args.key c.args.depth)) c.len-at.ensures);
+      made = c.replace.ensures.items ∙ ap (λ xs. set xs from c.link.new.node) c.in_ok-push.ensures.ok
+          ∙ ap (set (ns ++ c.bare.result ∷ []) from) (c.link.ensures ∙ ap (λ b. linked_to c.at.result.now b c.len-at.result) c.is_high.ensures
+          ∙ ap (λ (n : Node). linked_to n (is_high c.args.key c.args.depth) c.len-at.result) node
+          ∙ ap (linked_to (get_or ns from blank) (is_high c.args.key c.args.depth)) c.len-at.ensures);
     }
 
 pub returns-clause-trie : goal.returns-clause-trie

@@ -11,7 +11,8 @@ one c = alone c.args.nodes.now c.push.new.self c.bare.result (sym c.is_empty.ens
 
 pub returns-in_ok-push-clause-trie : goal.returns-in_ok-push-clause-trie
 returns-in_ok-push-clause-trie c =
-    subst IsTrie (sym (one c)) (trie-root c.bare.result (ap (λ (n : Node). n.name) c.bare.ensures ∙ c.name_at.ensures) (ap (λ (n : Node). n.low) c.bare.ensures) (ap (λ (n : Node). n.high) c.bare.ensures))
+    subst IsTrie (sym (one c)) (trie-root c.bare.result (ap (λ (n : Node). n.name) c.bare.ensures ∙ c.name_at.ensures) (ap (λ (n : Node). n.low) c.bare.ensures)
+    (ap (λ (n : Node). n.high) c.bare.ensures))
 
 pub returns-in_ok-push-clause-seen : goal.returns-in_ok-push-clause-seen
 returns-in_ok-push-clause-seen c =

@@ -8,4 +8,5 @@ put_back-requires c = bound-now c.args.leaves.now c.insert-2.new.self c.args.low
 
 pub returns-in-Err-clause-err : goal.returns-in-Err-clause-err
 returns-in-Err-clause-err c =
-    c.put_back.ensures ∙ ap (λ (m : LeafMap). rebound m c.args.low.name c.in_ok-was.was') (c.in-Err.ensures.err ∙ c.in_ok-was.ensures.ok) ∙ put-back c.args.leaves.now c.args.low.name c.args.low c.in_ok-was.was' c.in_ok-was.ensures.was
+    c.put_back.ensures ∙ ap (λ (m : LeafMap). rebound m c.args.low.name c.in_ok-was.was') (c.in-Err.ensures.err ∙ c.in_ok-was.ensures.ok)
+    ∙ put-back c.args.leaves.now c.args.low.name c.args.low c.in_ok-was.was' c.in_ok-was.ensures.was

@@ -10,9 +10,11 @@ returns-clause-journal c =
 pub returns-clause-run : goal.returns-clause-run
 returns-clause-run c =
     let is = walked-once EVENTS c.args.script.now _ c.lines_done.new.walk _ c.in_ok-walk.ensures.walk c.lines.ensures.value c.in_ok-lines_done.ensures in
-    run-once EVENTS c.args.script.now c.lines_done.new.walk _ c.ended.result c.in_ok-walk.ensures.kept.ranges c.lines.ensures.kept.lines is c.ended.ensures.journal
+    run-once EVENTS c.args.script.now c.lines_done.new.walk _ c.ended.result c.in_ok-walk.ensures.kept.ranges c.lines.ensures.kept.lines is
+    c.ended.ensures.journal
 
 pub returns-clause-lines : goal.returns-clause-lines
 returns-clause-lines c =
     let is = walked-once EVENTS c.args.script.now _ c.lines_done.new.walk _ c.in_ok-walk.ensures.walk c.lines.ensures.value c.in_ok-lines_done.ensures in
-    lines-once EVENTS c.args.script.now c.lines_done.new.walk _ _ c.ended.result c.in_ok-walk.ensures.kept.ranges c.lines.ensures.kept.lines is c.ended.ensures.journal c.ended.ensures.lines
+    lines-once EVENTS c.args.script.now c.lines_done.new.walk _ _ c.ended.result c.in_ok-walk.ensures.kept.ranges c.lines.ensures.kept.lines is
+    c.ended.ensures.journal c.ended.ensures.lines

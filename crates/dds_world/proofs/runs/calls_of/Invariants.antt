@@ -4,4 +4,5 @@ use Rattle.dds_world.proofs.runs.calls_of.Given as goal
 
 abbrev pub invariant-loop-a : goal.invariant-loop-a
 invariant-loop-a l =
-    l.list.items ++ map (λ a. placed_call a (answer_to l.told a.caller a.call)) (drop l.a-index l.asked) ≡ map (λ a. placed_call a (answer_to l.told a.caller a.call)) l.asked
+    l.list.items ++ map (λ a. placed_call a (answer_to l.told a.caller a.call)) (drop l.a-index l.asked)
+    ≡ map (λ a. placed_call a (answer_to l.told a.caller a.call)) l.asked

@@ -5,7 +5,8 @@ use Rattle.dds_base.proofs.name.LeafName.overlaps.Goals as goal
 
 pub returns-clause-key : goal.returns-clause-key
 returns-clause-key c =
-    let value : nat_eq (c.from.result % (1 * 2 ^ c.min-shorter.result % 4294967296)) (c.from-2.result % (1 * 2 ^ c.min-shorter.result % 4294967296)) ≡ overlaps c.args.self.now c.args.other.now = search rules in
+    let value : nat_eq (c.from.result % (1 * 2 ^ c.min-shorter.result % 4294967296)) (c.from-2.result % (1 * 2 ^ c.min-shorter.result % 4294967296))
+    ≡ overlaps c.args.self.now c.args.other.now = search rules in
     let da : c.args.self.now.depth ≤ 16 = rw (← c.self.view_is) c.self.invariant.0 in
     let db : c.args.other.now.depth ≤ 16 = rw (← c.other.view_is) c.other.invariant.0 in
     let ba : c.args.self.now.bits < 2 ^ c.args.self.now.depth = rw (← c.self.view_is) c.self.invariant.1 in

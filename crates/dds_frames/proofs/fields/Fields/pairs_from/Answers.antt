@@ -14,7 +14,8 @@ pub loop-pair-preserved : goal.loop-pair-preserved
 loop-pair-preserved c = record {
   count = rw c.in_ok-push.ensures.ok (simp length-append (omega (arith, c.loop-pair.invariant.count)));
   last = sym (ap (last_key None) c.in_ok-push.ensures.ok ∙ last-push None c.loop-pair.pairs c.in_ok-pair.pair);
-  rest = rw c.in_ok-push.ensures.ok (pairs-more _ _ _ _ _ _ _ c.loop-pair-test.true (rw (← c.loop-pair.invariant.last) c.in_ok-pair.ensures.value) c.loop-pair.invariant.rest);
+  rest = rw c.in_ok-push.ensures.ok (pairs-more _ _ _ _ _ _ _ c.loop-pair-test.true (rw (← c.loop-pair.invariant.last) c.in_ok-pair.ensures.value)
+      c.loop-pair.invariant.rest);
 }
 
 pub returns : goal.returns

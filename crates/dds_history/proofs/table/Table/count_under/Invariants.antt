@@ -5,4 +5,5 @@ use Rattle.dds_history.proofs.table.Table.count_under.Given as goal
 
 abbrev pub invariant-loop-key : goal.invariant-loop-key
 invariant-loop-key l =
-    (l.count + count_by (λ key. covers l.name key) l.key-iterator ≡ count_by (λ key. covers l.name key) l.initial.key-iterator) × (l.count + length l.key-iterator < 2 ^ 63)
+    (l.count + count_by (λ key. covers l.name key) l.key-iterator ≡ count_by (λ key. covers l.name key) l.initial.key-iterator)
+    × (l.count + length l.key-iterator < 2 ^ 63)

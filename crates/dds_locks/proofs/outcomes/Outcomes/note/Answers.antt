@@ -5,7 +5,8 @@ use Rattle.dds_locks.proofs.Txns.{txn_total, txn_antisymmetric}
 use Rattle.dds_locks.proofs.outcomes.Outcomes.note.Goals as goal
 
 pub returns-clause-ok : goal.returns-clause-ok
-returns-clause-ok c = rw (← c.self.view_is) (insert-seen txn_total txn_antisymmetric c.self.inside.noted c.insert.new.self c.args.txn c.args.committed c.in_ok-insert.ensures.updates.0)
+returns-clause-ok c = rw (← c.self.view_is) (insert-seen txn_total txn_antisymmetric c.self.inside.noted c.insert.new.self c.args.txn c.args.committed
+    c.in_ok-insert.ensures.updates.0)
 
 pub invariant_of-self-2 : goal.invariant_of-self-2
 invariant_of-self-2 c =

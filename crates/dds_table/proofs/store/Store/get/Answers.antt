@@ -19,24 +19,31 @@ returns-in-Err-clause-lawful g c = λ a is.
     let s = unless-false c.self.inside.failed _ (ap (λ s. s.failed) c.self.view_is ∙ c.requires.live) c.self.invariant.0 in
     let told : g.D.Disk.pages c.self.inside.space.cache.disk ≡ Some a = ap (λ s. g.D.Disk.pages s.cache.disk) c.self.view_is ∙ is in
     let l = ap length c.as_slice.ensures.value in
-    c.in-Err.ensures.lawful a told (table-at a c.self.inside.tables.items c.place_in-place.result c.index.result.now (s.stored a told) (omega (arith, l, c.place_in-place.ensures.within)) c.index.ensures)
+    c.in-Err.ensures.lawful a told (table-at a c.self.inside.tables.items c.place_in-place.result c.index.result.now (s.stored a told)
+    (omega (arith, l, c.place_in-place.ensures.within)) c.index.ensures)
 
 pub returns-clause-told : goal.returns-clause-told
 returns-clause-told g c = λ a is.
     let s = unless-false c.self.inside.failed _ (ap (λ s. s.failed) c.self.view_is ∙ c.requires.live) c.self.invariant.0 in
     let told : g.D.Disk.pages c.self.inside.space.cache.disk ≡ Some a = ap (λ s. g.D.Disk.pages s.cache.disk) c.self.view_is ∙ is in
     let l = ap length c.as_slice.ensures.value in
-    let p : place_named (named c.self.inside.tables.items) c.args.name ≡ Some c.place_in-place.result = ap (λ (ts : List Chains). place_named (named ts) c.args.name) (sym c.as_slice.ensures.value) ∙ c.place_in-place.ensures.value in
-    let tab = table-at a c.self.inside.tables.items c.place_in-place.result c.index.result.now (s.stored a told) (omega (arith, l, c.place_in-place.ensures.within)) c.index.ensures in
-    c.in-Ok.ensures.told a told tab ∙ ap (λ (m : Map). get m c.args.key) (sym (map-at a c.self.inside.tables.items c.args.name c.place_in-place.result c.index.result.now p c.index.ensures))
+    let p : place_named (named c.self.inside.tables.items) c.args.name ≡ Some c.place_in-place.result =
+    ap (λ (ts : List Chains). place_named (named ts) c.args.name) (sym c.as_slice.ensures.value) ∙ c.place_in-place.ensures.value in
+    let tab = table-at a c.self.inside.tables.items c.place_in-place.result c.index.result.now (s.stored a told)
+    (omega (arith, l, c.place_in-place.ensures.within)) c.index.ensures in
+    c.in-Ok.ensures.told a told tab ∙ ap (λ (m : Map). get m c.args.key)
+    (sym (map-at a c.self.inside.tables.items c.args.name c.place_in-place.result c.index.result.now p c.index.ensures))
     ∙ ap (λ s. get (map_named (maps_of a s.tables) c.args.name) c.args.key) c.self.view_is
 
 pub returns-in-Err-clause-refused : goal.returns-in-Err-clause-refused
 returns-in-Err-clause-refused g c =
     let l = ap length c.as_slice.ensures.value in
-    refused-at _ c.self.inside.tables.items c.place_in-place.result c.index.result.now c.in-Err.fault (omega (arith, l, c.place_in-place.ensures.within)) c.index.ensures c.in-Err.ensures.refused
+    refused-at _ c.self.inside.tables.items c.place_in-place.result c.index.result.now c.in-Err.fault (omega (arith, l, c.place_in-place.ensures.within))
+    c.index.ensures c.in-Err.ensures.refused
 
 pub returns-clause-known : goal.returns-clause-known
 returns-clause-known g c =
-    let p : place_named (named c.self.inside.tables.items) c.args.name ≡ Some c.place_in-place.result = ap (λ (ts : List Chains). place_named (named ts) c.args.name) (sym c.as_slice.ensures.value) ∙ c.place_in-place.ensures.value in
-    rw (← c.self.view_is) (c.in-Ok.ensures.known ∙ knows-at c.self.inside.tables.items c.args.name c.place_in-place.result c.index.result.now c.args.key p c.index.ensures)
+    let p : place_named (named c.self.inside.tables.items) c.args.name ≡ Some c.place_in-place.result =
+    ap (λ (ts : List Chains). place_named (named ts) c.args.name) (sym c.as_slice.ensures.value) ∙ c.place_in-place.ensures.value in
+    rw (← c.self.view_is) (c.in-Ok.ensures.known ∙ knows-at c.self.inside.tables.items c.args.name c.place_in-place.result c.index.result.now c.args.key p
+    c.index.ensures)

@@ -26,7 +26,8 @@ put-requires-clause-covers g c =
 pub put-requires-clause-room : goal.put-requires-clause-room
 put-requires-clause-room g c = λ b is no.
     let o = told-back (g.D.Disk.pages c.args.self.now.cache.disk) (g.D.Disk.pages c.putting.self.cache.disk) c.putting.invariant.untold b is in
-    lift-room (g.D.Disk.pages c.putting.self.cache.disk) o.0 b c.args.self.now.tables c.putting.self.tables c.args.name c.args.pairs.now c.putting.pair-index c.requires.there (c.putting.invariant.holds o.0 o.1) is (omega (arith, c.putting-test.true)) c.requires.few
+    lift-room (g.D.Disk.pages c.putting.self.cache.disk) o.0 b c.args.self.now.tables c.putting.self.tables c.args.name c.args.pairs.now c.putting.pair-index
+    c.requires.there (c.putting.invariant.holds o.0 o.1) is (omega (arith, c.putting-test.true)) c.requires.few
 
 pub returns-in_err-put-clause-lawful : goal.returns-in_err-put-clause-lawful
 returns-in_err-put-clause-lawful g c = λ a is.
@@ -45,7 +46,9 @@ putting-preserved g c = record {
   tables = c.in_ok-put.ensures.tables ∙ c.putting.invariant.tables;
   holds = λ a is.
       let m = c.putting.invariant.holds a is in
-      lift-next (g.D.Disk.pages c.putting.self.cache.disk) (g.D.Disk.pages c.put.new.self.cache.disk) a c.args.self.now.tables c.putting.self.tables c.put.new.self.tables c.args.name c.args.pairs.now c.putting.pair-index c.pair-item.result c.requires.there (omega (arith, c.putting-test.true)) c.pair-item.is m (c.in_ok-put.ensures.told m.pages m.is_told);
+      lift-next (g.D.Disk.pages c.putting.self.cache.disk) (g.D.Disk.pages c.put.new.self.cache.disk) a c.args.self.now.tables c.putting.self.tables
+      c.put.new.self.tables c.args.name c.args.pairs.now c.putting.pair-index c.pair-item.result c.requires.there (omega (arith, c.putting-test.true))
+      c.pair-item.is m (c.in_ok-put.ensures.told m.pages m.is_told);
   untold = λ none. c.in_ok-put.ensures.untold (c.putting.invariant.untold none);
   steady = c.in_ok-put.ensures.steady ∙ c.putting.invariant.steady;
 }
@@ -53,4 +56,6 @@ putting-preserved g c = record {
 pub returns-clause-told : goal.returns-clause-told
 returns-clause-told g c = λ a is.
     let long : length c.args.pairs.now ≤ c.putting.pair-index = omega (arith, c.putting-test.false) in
-    subst (λ (ps : List Pair). Holds (g.D.Disk.pages c.putting.self.cache.disk) c.putting.self.tables (with_map (maps_of a c.args.self.now.tables) c.args.name (map_of ps))) (take_all c.putting.pair-index c.args.pairs.now long) (c.putting.invariant.holds a is)
+    subst (λ (ps : List Pair). Holds (g.D.Disk.pages c.putting.self.cache.disk) c.putting.self.tables
+    (with_map (maps_of a c.args.self.now.tables) c.args.name (map_of ps))) (take_all c.putting.pair-index c.args.pairs.now long)
+    (c.putting.invariant.holds a is)

@@ -9,7 +9,8 @@ abbrev pub invariant-turns : goal.invariant-turns
 invariant-turns g l = record {
   live : l.self.failed ≡ false;
   names : names l.self.tables ≡ names l.fn.self.tables ++ low_half l.name ∷ high_half l.name ∷ [];
-  moves : (a : Pages) → g.D.Disk.pages l.fn.self.cache.disk ≡ Some a → Moves (g.D.Disk.pages l.self.cache.disk) l.self.tables (maps_of a l.fn.self.tables) l.name (l.most - l._turn);
+  moves : (a : Pages) → g.D.Disk.pages l.fn.self.cache.disk ≡ Some a
+      → Moves (g.D.Disk.pages l.self.cache.disk) l.self.tables (maps_of a l.fn.self.tables) l.name (l.most - l._turn);
   untold : g.D.Disk.pages l.fn.self.cache.disk ≡ None → g.D.Disk.pages l.self.cache.disk ≡ None;
   steady : g.D.Disk.faults l.self.cache.disk ≡ g.D.Disk.faults l.fn.self.cache.disk;
 }

@@ -1,0 +1,13 @@
+pub mod Claim
+pub mod Callers
+pub mod Committing
+pub mod Turns
+pub mod Found
+pub mod Library
+pub mod Views
+pub mod Decided
+pub mod PointRows
+pub mod Held
+pub mod Whole
+pub mod Since
+pub mod Runs

@@ -1,0 +1,14 @@
+pub mod Lists
+pub mod Used
+pub mod Requests
+pub mod Points
+pub mod Claim
+pub mod Grown
+pub mod Kept
+pub mod Start
+pub mod Runs
+pub mod Shut
+pub mod Answered
+pub mod Opens
+pub mod Refused
+pub mod Never
