@@ -24,7 +24,7 @@ stands-proved law plain script journal f h =
 
 pub ran-ok : {A E : Type 0} (journal : A → List Step) (script : ScriptOf) (result : Result A E) → RunsStand → AllAreCaused → CallsAreKept
     → StepsArePlain → IsOpening script.opening → IfOk result (λ ran. journal ran ≡ steps script)
-        → IfOk result (λ ran. is_run script.opening (journal ran) ≡ true)
+    → IfOk result (λ ran. is_run script.opening (journal ran) ≡ true)
     → IfOk result (λ ran. IsRunOf script (journal ran))
 ran-ok journal script (Ok ran) stand caused kept plain opening f r =
     record {
