@@ -57,7 +57,7 @@ pub entries-later : (cs ds : List Caller) (a : Book) → CallersGo cs ds → ((u
     → a u ≡ Some f → EntryOk ds u f
 entries-later cs ds a g h u f e = entry-later cs ds u f g (h u f e)
 
-txn-is : (t u : Txn) → t.library ≡ u.library → t.number ≡ u.number → t ≡ u
+pub txn-is : (t u : Txn) → t.library ≡ u.library → t.number ≡ u.number → t ≡ u
 txn-is t u e f = λ i. record { library = e i; number = f i }
 
 module _ (New : Comes) (z : Sizes) (cs ds : List Caller) (n : Net) (a : Book) (at : ℕ) (old s : LibraryState) (t : Turn New z cs ds n a at old s) where

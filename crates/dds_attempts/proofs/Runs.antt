@@ -43,7 +43,7 @@ pub record Stands (z : Sizes) (h : History) (n : Net) (b : Book × talk.Books) :
 abbrev adds_both : Books (Book × talk.Books)
 adds_both h n e b = (booked e b.0, talk.adds h n e b.1)
 
-stands-kept : (z : Sizes) → z.bricks ≤ 64 → z.libraries ≤ 16 → IsKept z (Book × talk.Books) adds_both (Stands z)
+pub stands-kept : (z : Sizes) → z.bricks ≤ 64 → z.libraries ≤ 16 → IsKept z (Book × talk.Books) adds_both (Stands z)
 stands-kept z few some h n e b built f k =
     let later = all-kept z few some h n e b built f k.parts in
     record { parts = later; last = last-kept z few some h n e b tt built f k.parts later k.last }
@@ -87,7 +87,7 @@ none-open libraries (suc k) n zero x call e f =
     call_then (Some y) = y.call
 none-open libraries (suc k) n (suc i) x call e f = none-open libraries k (n + 1) i x call e f
 
-start-last : (o : OpeningOf) → AreLast (sizes_of o) (history_of (start o)) (net (sizes_of o) (start o).world) (λ t. None) talk.no_books
+pub start-last : (o : OpeningOf) → AreLast (sizes_of o) (history_of (start o)) (net (sizes_of o) (start o).world) (λ t. None) talk.no_books
 start-last o =
     record {
       pending = λ k. new-pending o k _ (start-node o k);

@@ -3,6 +3,7 @@ use Rattle.std.specs.List.{AllByRecursion}
 use Rattle.std.specs.Prelude.{◌<◌, slice_get}
 use Rattle.dds_attempts.proofs.Claim.{EntryOk}
 use Rattle.dds_attempts.proofs.Found.{Found, OpenWith, before, found, opened}
+use Rattle.dds_attempts.proofs.Library.{txn-is}
 use Rattle.dds_base.specs.Number.{Txn}
 use Rattle.dds_base.specs.declared.number.CallNo.{CallNo}
 use Rattle.dds_base.specs.declared.op.Op.{Op}
@@ -62,9 +63,6 @@ module _ (cs ds : List Caller) (steps : ℕ) (asked new : List Asked) (fresh : A
       (all-both (IsBooked a) (OfCall (AllAsk asked)) s.calls b.calls h)
 
 -- the book after a library's turn
-txn-is : (t u : Txn) → t.library ≡ u.library → t.number ≡ u.number → t ≡ u
-txn-is t u e f = λ i. record { library = e i; number = f i }
-
 module _ (z : Sizes) (a : Book) (at : ℕ) (s : LibraryState) (asked : List Asked) (placed : LibraryOk z at s)
     (listed : LibraryListed (with_library at s a) s) (calls : AreAsked asked s) where
   opened-asks : (u : Txn) (f : Entry) → with_library at s a u ≡ Some f → u.library ≡ at → OpenWith s.calls u.number f → AllAsk asked f.caller f.call f.op

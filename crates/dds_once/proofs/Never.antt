@@ -2,7 +2,7 @@ use Rattle.std.proofs.Common.{◌≡◌, ℕ, ◌==◌, Bool, true, false, Optio
 use Rattle.std.proofs.lemmas.Bool.{and_parts, both_ways, eqb-true}
 use Rattle.std.specs.List.{AllByRecursion}
 use Rattle.std.specs.Prelude.{filter, slice_get, if◌then◌else◌}
-use Rattle.dds_attempts.proofs.Runs.{Stands}
+use Rattle.dds_attempts.proofs.Runs.{Stands, stands-kept}
 use Rattle.dds_attempts.proofs.Turns.{all-from}
 use Rattle.dds_base.specs.Op.{is_get}
 use Rattle.dds_base.specs.declared.number.CallNo.{CallNo}
@@ -22,7 +22,7 @@ use Rattle.dds_once.proofs.Lists.{taken-are}
 use Rattle.dds_once.proofs.Refused.{AreRefused, IsNotOf, IsRefused, refused-stays}
 use Rattle.dds_once.proofs.Runs.{IsPoint, all-points, call-is, is_of, of-parts, point-update, run-once}
 use Rattle.dds_once.proofs.Shut.{ToldSays}
-use Rattle.dds_once.proofs.Start.{stands-kept, start-once}
+use Rattle.dds_once.proofs.Start.{start-once}
 use Rattle.dds_once.specs.Law.{RefusedUpdatesStandNever, UpdateNever}
 use Rattle.dds_script.specs.Opening.{IsOpening, OpeningOf}
 use Rattle.dds_talk.specs.Books as talk

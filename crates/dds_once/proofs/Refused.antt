@@ -5,7 +5,7 @@ use Rattle.std.specs.Prelude.{slice_get}
 use Rattle.dds_attempts.proofs.Claim.{AreCommitting, AreNewest, Commits, IsNewest, PointIs}
 use Rattle.dds_attempts.proofs.Held.{all-kept-are}
 use Rattle.dds_attempts.proofs.Runs.{Stands}
-use Rattle.dds_base.specs.Number.{Txn}
+use Rattle.dds_attempts.proofs.Library.{txn-is}
 use Rattle.dds_base.specs.Op.{is_get}
 use Rattle.dds_base.specs.declared.number.CallNo.{CallNo}
 use Rattle.dds_books.specs.Books.{Book, IsBooked, NodeListed, booked}
@@ -58,9 +58,6 @@ orders-say : (M : Given) (P : ℕ → CallNo → Type 0) (rs : List Replied) →
 orders-say M P [] h = tt
 orders-say M P (replied.Order r ∷ rs) h = (tt, orders-say M P rs h.1)
 orders-say M P (replied.Call read caller call r ∷ rs) h = absurd h.0
-
-txn-is : (t u : Txn) → t.library ≡ u.library → t.number ≡ u.number → t ≡ u
-txn-is t u e f = λ i. record { library = e i; number = f i }
 
 module _ (z : Sizes) (few : z.bricks ≤ 64) (some : z.libraries ≤ 16) (h : History) (n : Net) (b : Book × talk.Books) (built : IsBuilt z n)
     (k : Stands z h n b) where

@@ -3,9 +3,9 @@ use Rattle.std.proofs.lemmas.Bool.{and_parts, eqb-true}
 use Rattle.std.specs.List.{AllByRecursion}
 use Rattle.std.specs.Prelude.{filter, slice_get}
 use Rattle.dds_attempts.proofs.Claim.{IsApplied, PointIs}
-use Rattle.dds_attempts.proofs.Runs.{Stands}
+use Rattle.dds_attempts.proofs.Runs.{Stands, stands-kept}
 use Rattle.dds_attempts.proofs.Turns.{all-from}
-use Rattle.dds_base.specs.Number.{Txn}
+use Rattle.dds_attempts.proofs.Library.{txn-is}
 use Rattle.dds_base.specs.Op.{is_get}
 use Rattle.dds_base.specs.declared.number.CallNo.{CallNo}
 use Rattle.dds_books.specs.Books.{Book, booked}
@@ -25,7 +25,7 @@ use Rattle.dds_once.proofs.Claim.{AllBehind, AreOnce, AsksThis, IsBehind}
 use Rattle.dds_once.proofs.Kept.{AreOnceOver, once-stays}
 use Rattle.dds_once.proofs.Lists.{OtherUpdate, at-most-one, pairs-from, taken-are}
 use Rattle.dds_once.proofs.Points.{HasEntry}
-use Rattle.dds_once.proofs.Start.{stands-kept, start-once}
+use Rattle.dds_once.proofs.Start.{start-once}
 use Rattle.dds_once.specs.Law.{UpdateOnce, UpdatesStandOnce}
 use Rattle.dds_script.specs.Opening.{IsOpening, OpeningOf}
 use Rattle.dds_talk.specs.Books as talk
@@ -55,9 +55,6 @@ pub of-parts : (x : Asked) (m : Made) → is_of x m ≡ true → (m.entry.caller
 of-parts x m e =
     let q = and_parts (m.entry.caller == x.caller) (m.entry.call.0 == x.call.0) e in
     (eqb-true m.entry.caller x.caller q.0, call-is m.entry.call x.call (eqb-true m.entry.call.0 x.call.0 q.1))
-
-txn-is : (t u : Txn) → t.library ≡ u.library → t.number ≡ u.number → t ≡ u
-txn-is t u e f = λ i. record { library = e i; number = f i }
 
 module _ (z : Sizes) (h : History) (n : Net) (b : Book × talk.Books) (k : Stands z h n b) (g : AreOnce h n b.0) where
   -- what is so of each point
