@@ -19,7 +19,6 @@ pub mod Telling
 pub mod Naming
 pub mod Gets
 pub mod Stopped
-pub mod Updates
 pub mod Fills
 pub mod Alone
 pub mod Filled
