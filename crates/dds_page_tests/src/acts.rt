@@ -1,6 +1,8 @@
 //! Acts on a table of a store, made one after another, and the answers that they must have.
 
-ghost use Rattle.std.specs.Prelude.{◌≡◌, false, OnOk};
+ghost use Rattle.std.specs.Prelude.{◌≡◌, ◌<◌, false, IsTrue, OnOk};
+ghost use Rattle.dds_groups.specs.Names.{low_half, high_half};
+ghost use Rattle.dds_table.specs.Store.{has_table};
 
 use dds_base::memory::Memory;
 use dds_base::name::LeafName;
@@ -80,9 +82,7 @@ fn make<D: Disk>(alloc: Global, store: &mut Store<D>, act: Act, key: u64) -> Tri
     requires { store.old.failed ≡ false }
     ensures { OnOk result (store.new.failed ≡ false) }
 {
-    let Some(name) = name_of(act, key) else {
-        return Ok(Answer::Other);
-    };
+    let name = name_of(act, key).ok_or(Memory)?;
     if let Act::Add = act {
         store.add(name)?;
         return Ok(Answer::Done);
@@ -91,7 +91,9 @@ fn make<D: Disk>(alloc: Global, store: &mut Store<D>, act: Act, key: u64) -> Tri
         return Ok(Answer::NoTable);
     }
     match act {
-        Act::Put => put(store, name, key, &value_of(alloc, key)?),
+        Act::Put if name.covers(key) && store.len(name) < 16_384 => {
+            Ok(Answer::Was(store.put(name, key, &value_of(alloc, key)?)?))
+        }
         Act::Get | Act::GetHalf | Act::GetOther => match store.get(name, key)? {
             Some(value) => Ok(shown(&value, &value_of(alloc, key)?)),
             None => Ok(Answer::Was(false)),
@@ -102,12 +104,15 @@ fn make<D: Disk>(alloc: Global, store: &mut Store<D>, act: Act, key: u64) -> Tri
             let pairs = part.pairs.as_slice();
             Ok(Answer::Keys(key_at(pairs, 0), key_at(pairs, 1), part.last))
         }
-        Act::Split => split(store, name),
+        Act::Split if may_split(store, name) => {
+            store.split(name)?;
+            Ok(Answer::Done)
+        }
         Act::Drop => {
             store.drop_table(name);
             Ok(Answer::Done)
         }
-        Act::Add => Ok(Answer::Other),
+        _ => Ok(Answer::Other),
     }
 }
 
@@ -146,24 +151,9 @@ fn key_at(pairs: &[Pair], place: usize) -> Option<u64> {
     Some(pairs.get(place)?.key)
 }
 
-fn put<D: Disk>(store: &mut Store<D>, name: LeafName, key: u64, value: &Value) -> Tried<Answer>
-    requires { store.old.failed ≡ false }
-    ensures { OnOk result (store.new.failed ≡ false) }
+/// Whether the table's halves may be added.
+fn may_split<D: Disk>(store: &Store<D>, name: LeafName) -> bool
+    ensures { IsTrue result → (name.depth < 16) × (has_table store.now.tables (low_half name) ≡ false) × (has_table store.now.tables (high_half name) ≡ false) }
 {
-    if !store.has(name) || !name.covers(key) || store.len(name) >= 16_384 {
-        return Ok(Answer::Other);
-    }
-    Ok(Answer::Was(store.put(name, key, value)?))
-}
-
-fn split<D: Disk>(store: &mut Store<D>, name: LeafName) -> Tried<Answer>
-    requires { store.old.failed ≡ false }
-    ensures { OnOk result (store.new.failed ≡ false) }
-{
-    let unfit = !store.has(name) || name.depth() >= 16;
-    if unfit || store.has(low_half(name)) || store.has(high_half(name)) {
-        return Ok(Answer::Other);
-    }
-    store.split(name)?;
-    Ok(Answer::Done)
+    name.depth() < 16 && !store.has(low_half(name)) && !store.has(high_half(name))
 }

@@ -45,6 +45,18 @@ fn byte_of<D: Disk>(disk: &mut D, page: u64) -> Option<u8> {
     }
 }
 
+/// The bytes of the first pages, and of one that has no place in a file.
+fn bytes_of<D: Disk>(disk: &mut D) -> [Option<u8>; 6] {
+    [
+        byte_of(disk, 0),
+        byte_of(disk, 1),
+        byte_of(disk, 2),
+        byte_of(disk, 3),
+        byte_of(disk, 4),
+        byte_of(disk, 1 << 51),
+    ]
+}
+
 #[test]
 fn keeps_pages_in_a_file(rt: HostRuntime) -> Result<(), Fail> {
     let path = "/tmp/dds_disk_keeps_pages";
@@ -52,10 +64,8 @@ fn keeps_pages_in_a_file(rt: HostRuntime) -> Result<(), Fail> {
     let mut disk = FileDisk::new(&rt, rt.alloc(), path)?;
     assert_eq!(rt; byte_of(&mut disk, 0), Some(0), "the file was emptied");
     assert_eq!(rt; fill_two(&mut disk), Ok(()));
-    for (page, byte) in &[(0, 0), (1, 6), (2, 0), (3, 5), (4, 0)] {
-        assert_eq!(rt; byte_of(&mut disk, *page), Some(*byte), "page {page}");
-    }
-    assert_eq!(rt; byte_of(&mut disk, 1 << 51), None, "no such place");
+    let wanted = [Some(0), Some(6), Some(0), Some(5), Some(0), None];
+    assert_eq!(rt; bytes_of(&mut disk), wanted);
     assert_eq!(rt; fs::metadata(&rt, path)?.len(), 4 * 4_096);
     fs::remove_file(&rt, path)?;
     Ok(())

@@ -1,7 +1,10 @@
 //! Tables of version 1 on a disk of memory, written byte by byte.
 
-ghost use Rattle.std.specs.Prelude.{◌≡◌, false};
+ghost use Rattle.std.specs.Prelude.{◌≡◌, false, OnOk};
 
+use crate::acts::Act::{Add, Get};
+use crate::acts::Answer::{Done, Was};
+use crate::acts::run;
 use crate::pages::bucket_page;
 use dds_base::memory::Memory;
 use dds_base::name::LeafName;
@@ -33,30 +36,32 @@ fn old_disk(alloc: Global, pairs: u8, next: u64, failing: u64) -> Result<MemoryD
     }
 }
 
-/// Lifts a table into an empty one; says how many pairs it has, and the byte of key 0.
-fn lifted<D: Disk>(alloc: Global, old: &mut D, root: u64) -> Result<(u32, Option<u8>), LiftFault> {
+/// Lifts a table where the store's conditions hold.
+fn lift<D: Disk>(store: &mut Store<D>, old: &mut MemoryDisk, root: u64) -> Result<u32, LiftFault>
+    requires { store.old.failed ≡ false }
+    ensures { OnOk result (store.new.failed ≡ false) }
+{
     let name = LeafName::of(0, 0).ok_or(Memory)?;
-    let mut store = Store::new(alloc, MemoryDisk::new(alloc, &[])?)?;
-    store.add(name).map_err(LiftFault::Store)?;
     if !store.has(name) || store.len(name) > 0 {
         return Err(LiftFault::Memory);
     }
-    let count = store.lift(name, old, root)?;
-    if !store.has(name) {
-        return Err(LiftFault::Memory);
-    }
-    match store.get(name, 0) {
-        Ok(Some(value)) => Ok((count, value.bytes().first().copied())),
-        Ok(None) => Ok((count, None)),
-        Err(fault) => Err(LiftFault::Store(fault)),
-    }
+    store.lift(name, old, root)
+}
+
+/// Lifts a table into a new one; says how many pairs it has, and whether key 0 isn't as it must be.
+fn lifted(alloc: Global, old: &mut MemoryDisk, root: u64) -> Result<(u32, bool), LiftFault> {
+    let mut store = Store::new(alloc, MemoryDisk::new(alloc, &[])?)?;
+    run(alloc, &mut store, &[(Add, 0..1, Done)]).map_err(LiftFault::Store)?;
+    let count = lift(&mut store, old, root)?;
+    let wrong = run(alloc, &mut store, &[(Get, 0..1, Was(true))]).map_err(LiftFault::Store)?;
+    Ok((count, wrong.is_some()))
 }
 
 #[test]
 fn lifts_an_old_table(rt: HostRuntime) -> Result<(), LiftFault> {
     // The root page's pairs, the bucket page's next page, the page of the root, and the call that fails, if it comes.
     for ((pairs, next, root, failing), want) in [
-        ((1, NO_PAGE, 0, 9), Ok((1, Some(0xaa)))),
+        ((1, NO_PAGE, 0, 9), Ok((1, false))),
         ((2, NO_PAGE, 0, 9), Err(LiftFault::Page { page: 0 })),
         ((1, 1, 0, 9), Err(LiftFault::Page { page: 1 })),
         ((1, NO_PAGE, 2, 9), Err(LiftFault::Page { page: 2 })),

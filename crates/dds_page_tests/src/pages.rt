@@ -53,14 +53,15 @@ fn root_pages_are_read_as_written(rt: HostRuntime) {
     assert_eq!(rt; old_root_of(&page), Some((16_384, 3, NO_PAGE)));
 }
 
-/// A bucket page of this version and this next page, which has the key 0 with the byte aa.
+/// A bucket page of this version and this next page, which has the key 0 with the bytes 0, 1 and 2.
 pub(crate) fn bucket_page(version: u8, next: u64) -> [u8; 4_096] {
     let mut page = [0; 4_096];
     page[..4].copy_from_slice(&[2, version, 0, 1]);
     page[4..12].copy_from_slice(&next.to_be_bytes());
-    page[13] = 27;
-    page[25] = 1;
-    page[26] = 0xaa;
+    page[13] = 29;
+    page[25] = 3;
+    page[27] = 1;
+    page[28] = 2;
     page
 }
 

@@ -15,21 +15,16 @@ use dds_table::store::Store;
 use std::alloc::Global;
 use std::test::Fail;
 
-/// Whether the rows are answered as they must be where a call of the disk fails: by a fault just where the disk had one.
+/// Whether the rows are answered as they must be where a call of the disk fails, by a fault just where the disk had one.
 fn is_met(alloc: Global, rows: &[Row], call: u64) -> Result<bool, Memory> {
     let mut disk = MemoryDisk::new(alloc, &[call])?;
     let mut store = Store::new(alloc, &mut disk)?;
     let answer = run(alloc, &mut store, rows);
     let _disk = store.into_disk();
-    let faults = disk.faults();
-    Ok(
-        answer
-            == if faults == 0 {
-                Ok(None)
-            } else {
-                Err(TableFault::Disk)
-            },
-    )
+    match answer {
+        Ok(wrong) => Ok(wrong.is_none() && disk.faults() == 0),
+        Err(fault) => Ok(fault == TableFault::Disk && disk.faults() > 0),
+    }
 }
 
 #[test]
