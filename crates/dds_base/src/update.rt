@@ -44,6 +44,13 @@ impl Update {
         &self.op
     }
 
+    pub fn into_op(self) -> Op
+        ensures value { result ≡ self }
+        ensures update { is_get result ≡ false }
+    {
+        self.op
+    }
+
     pub fn key(&self) -> u64
         ensures { result ≡ the_key self.now }
     {

@@ -128,7 +128,7 @@ fn decides(alloc: Global, state: &mut BrickState, resolving: &Resolving) -> Resu
         txn: resolving.txn,
         commit,
     };
-    let letters = to_each(alloc, others.as_slice(), &told)?;
+    let letters = to_each(alloc, others.as_slice(), told)?;
     turn.with(CoreTurn::letters(alloc, letters))
 }
 
@@ -180,7 +180,7 @@ fn ask_others(
 {
     let others = unknown_others(alloc, list, state.number, &state.known)?;
     let query = Letter::Query { txn, list: *list };
-    Ok(CoreTurn::letters(alloc, to_each(alloc, others.as_slice(), &query)?))
+    Ok(CoreTurn::letters(alloc, to_each(alloc, others.as_slice(), query)?))
 }
 
 /// Starts resolving: asks every other member how far it is.

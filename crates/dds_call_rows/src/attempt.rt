@@ -87,7 +87,7 @@ fn asks(
         call: request.call,
         key: request.op.key(),
     };
-    let letters = to_each(alloc, bricks.as_slice(), &question)?;
+    let letters = to_each(alloc, bricks.as_slice(), question)?;
     let call = OpenCall {
         request: retried(request)?,
         txn,
@@ -173,7 +173,7 @@ fn update_begins(
         list,
         op,
     };
-    let letters = to_each(alloc, members.as_slice(), &prepare)?;
+    let letters = to_each(alloc, members.as_slice(), prepare)?;
     let phase = Phase::Preparing {
         leaf: *leaf,
         list,

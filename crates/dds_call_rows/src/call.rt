@@ -84,7 +84,7 @@ fn commits(
         phase: _,
     } = call;
     let waiting = unknown_members(alloc, &list, &desk.known)?;
-    let letters = to_each(alloc, waiting.as_slice(), &Letter::Commit { txn })?;
+    let letters = to_each(alloc, waiting.as_slice(), Letter::Commit { txn })?;
     let phase = Phase::Committing {
         leaf,
         list,
@@ -144,7 +144,7 @@ fn aborts(
     ensures { IfOk result (λ went. went ≡ (aborts desk.now call list.now from denial.now).went) }
 {
     let waiting = unknown_members(alloc, list, &desk.known)?;
-    let letters = to_each(alloc, waiting.as_slice(), &Letter::Abort { txn: call.txn })?;
+    let letters = to_each(alloc, waiting.as_slice(), Letter::Abort { txn: call.txn })?;
     let phase = Phase::Aborting {
         waiting,
         denial: *denial,

@@ -5,11 +5,11 @@ ghost use Rattle.dds_frames.specs.Frame.{Spells};
 ghost use Rattle.dds_cluster.specs.Framed.{letter_of};
 
 use crate::step::Message;
-use bytes::Bytes;
 use dds_base::memory::Memory;
 use dds_base::number::NodeNo;
 use dds_frames::decode::decode;
 use dds_frames::encode::encode;
+use dds_frames::frame::Frame;
 use std::alloc::Global;
 use std::marker::Model;
 
@@ -18,7 +18,7 @@ use std::marker::Model;
 pub struct Framed {
     number: u64,
     to: NodeNo,
-    frame: Bytes,
+    frame: Frame,
 }
 
 impl Model for Framed {

@@ -28,19 +28,19 @@ pub fn points_made(
 {
     let mut list = Items::new(alloc);
     for point in points.into_vec() {
-        if let Some(made) = point_made(at, letter, point)? {
+        if let Some(made) = point_made(at, letter, point) {
             list.push(made)?;
         }
     }
     Ok(list)
 }
 
-fn point_made(at: u64, letter: &Letter, point: Point) -> Result<Option<Made>, Memory>
-    ensures { IfOk result (λ made. option_to_list made ≡ point_made at letter.now point) }
+fn point_made(at: u64, letter: &Letter, point: Point) -> Option<Made>
+    ensures { option_to_list result ≡ point_made at letter.now point }
 {
     match point {
-        Point::Read { txn, value } => Ok(read_by(at, txn, value, letter)),
-        Point::Applied { pending, was } => Ok(Some(update_by(at, was, &pending)?)),
+        Point::Read { txn, value } => read_by(at, txn, value, letter),
+        Point::Applied { pending, was } => Some(update_by(at, was, pending)),
     }
 }
 
@@ -100,18 +100,19 @@ fn found(value: Option<Value>) -> Reply
     }
 }
 
-fn update_by(at: u64, was: bool, pending: &Pending) -> Result<Made, Memory>
-    ensures { IfOk result (λ made. made ≡ update_by at was pending.now) }
+fn update_by(at: u64, was: bool, pending: Pending) -> Made
+    ensures { result ≡ update_by at was pending }
 {
-    let op = pending.op.op();
-    Ok(Made {
+    let op = pending.op.into_op();
+    let reply = reply_with(&op, was);
+    Made {
         place: at,
         txn: pending.txn,
         entry: Entry {
             caller: pending.caller,
             call: pending.call,
-            op: op.copy()?,
-            reply: reply_with(op, was),
+            op,
+            reply,
         },
-    })
+    }
 }

@@ -60,5 +60,5 @@ pub fn notices(
 {
     let all = all_nodes(alloc, bricks, libraries)?;
     let others = without(alloc, all.as_slice(), node)?;
-    to_each(alloc, others.as_slice(), &Letter::Notice)
+    to_each(alloc, others.as_slice(), Letter::Notice)
 }

@@ -1,8 +1,6 @@
 -- What was written is the letter's frame.
-use Rattle.std.proofs.Common.{ℕ, ◌≡◌, ◌+◌, ◌-◌, ◌^◌, ◌<◌, ◌≤◌, List, ◌++◌, length, drop, Result, Ok, Err, ◌∙◌, ap, arith, append_assoc, length-append}
-use Rattle.std.specs.Prelude.{IfOk}
+use Rattle.std.proofs.Common.{ℕ, ◌≡◌, ◌+◌, ◌-◌, ◌^◌, ◌<◌, ◌≤◌, List, ◌++◌, length, drop, ◌∙◌, ap, arith, append_assoc, length-append}
 use Rattle.std.proofs.lemmas.List.{drop_at}
-use Rattle.dds_base.specs.declared.memory.Memory.{Memory}
 use Rattle.dds_letters.specs.declared.letter.Letter.{Letter}
 use Rattle.dds_frames.specs.Spelling.{number_bytes}
 use Rattle.dds_frames.specs.Tags.{tag_number}
@@ -53,8 +51,6 @@ measured bytes new letter u e =
       same = e ∙ ap (λ (n : ℕ). number_bytes 4 n ++ drop 4 bytes) count ∙ ap (λ (t : List ℕ). number_bytes 4 (2 + length (field_bytes letter)) ++ t) rest;
     }
 
-pub encoded : (bytes new : List ℕ) (letter : Letter) (r : Result (List ℕ) Memory) → Unmeasured bytes letter →
-    new ≡ number_bytes 4 (length bytes - 4) ++ drop 4 bytes → IfOk r (λ bytes. bytes ≡ new) →
-    IfOk r (λ bytes. Spells bytes letter)
-encoded bytes new letter (Ok x) u e f = let s = measured bytes new letter u e in record { range = s.range; same = f ∙ s.same }
-encoded bytes new letter (Err fault) u e f = tt
+pub encoded : (bytes new written : List ℕ) (letter : Letter) → Unmeasured bytes letter →
+    new ≡ number_bytes 4 (length bytes - 4) ++ drop 4 bytes → written ≡ new → Spells written letter
+encoded bytes new written letter u e f = let s = measured bytes new letter u e in record { range = s.range; same = f ∙ s.same }

@@ -6,17 +6,17 @@ ghost use Rattle.dds_frames.specs.Letters.{tag_of, IsInRange};
 ghost use Rattle.dds_frames.specs.Frame.{frame, Spells};
 
 use crate::decode::VERSION;
+use crate::frame::Frame;
 use crate::tag::Tag;
 use crate::writer::FrameWriter;
-use bytes::Bytes;
 use dds_base::memory::Memory;
 use dds_letters::letter::Letter;
 use std::alloc::Global;
 
 /// The letter's one spelling.
 #[tactic(auto, unfolding(crate::specs::Frame::frame))]
-pub fn encode(alloc: Global, letter: &Letter) -> Result<Bytes, Memory>
-    ensures { IfOk result (λ bytes. Spells bytes letter.now) }
+pub fn encode(alloc: Global, letter: &Letter) -> Result<Frame, Memory>
+    ensures { IfOk result (λ frame. Spells frame letter.now) }
 {
     let mut frame = FrameWriter::new(alloc)?;
     frame.number_4(0)?;
@@ -24,7 +24,7 @@ pub fn encode(alloc: Global, letter: &Letter) -> Result<Bytes, Memory>
     frame.number_1(tag_of(letter).number())?;
     frame.fields(letter)?;
     frame.set_length();
-    frame.finish()
+    Ok(frame.finish())
 }
 
 /// What two letters' spellings have to do with each other: the front of some bytes spells one letter at most. So no

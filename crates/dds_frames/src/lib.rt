@@ -6,6 +6,7 @@ pub mod decode;
 pub mod encode;
 pub mod fault;
 mod fields;
+pub mod frame;
 mod group;
 mod letters;
 mod parts;

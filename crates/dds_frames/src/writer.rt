@@ -4,8 +4,9 @@ ghost use Rattle.std.specs.Prelude.{◌≡◌, ◌≤◌, ◌<◌, ◌^◌, ◌+
 ghost use Rattle.dds_frames.specs.Ranges.{IsTxn, IsCaller, IsCall, IsName, IsStamp, IsValue, IfThere, IsWord, IsUpdate};
 ghost use Rattle.dds_frames.specs.Spelling.{number_bytes, flag_bytes, txn_bytes, name_bytes, stamp_bytes, value_bytes, after_bytes, update_bytes, status_bytes};
 
+use crate::frame::Frame;
 use byteorder::{BigEndian, ByteOrder};
-use bytes::{BufMut, Bytes, BytesMut};
+use bytes::{BufMut, BytesMut};
 use dds_base::memory::Memory;
 use dds_base::name::LeafName;
 use dds_base::number::{CallNo, CallerNo, Stamp, TxnNo};
@@ -53,10 +54,10 @@ impl FrameWriter {
         BigEndian::write_u32(self.bytes.as_mut_slice(), len as u32);
     }
 
-    pub(crate) fn finish(self) -> Result<Bytes, Memory>
-        ensures { IfOk result (λ bytes. bytes ≡ self) }
+    pub(crate) fn finish(self) -> Frame
+        ensures { result ≡ self }
     {
-        Ok(self.bytes.freeze()?)
+        Frame::of(self.bytes)
     }
 
     #[tactic(auto, unfolding(crate::specs::Spelling::number_bytes))]

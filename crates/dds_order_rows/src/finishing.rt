@@ -63,7 +63,7 @@ fn give_back(
         order: order.number,
         name: order.name,
     };
-    let letters = to_each(alloc, live.as_slice(), &release)?;
+    let letters = to_each(alloc, live.as_slice(), release)?;
     CoreTurn::letters(alloc, letters).with(answer(alloc, reply)?)
 }
 

@@ -99,7 +99,7 @@ fn installs_from(
         order: order.number,
         leaf: made,
     };
-    let letters = to_each(alloc, members.as_slice(), &install)?;
+    let letters = to_each(alloc, members.as_slice(), install)?;
     order.waiting = members;
     order.phase = OrderPhase::Installing { made };
     state.order = Some(order);

@@ -133,7 +133,7 @@ pub fn ask_others(
         order: number,
         what: Wanted::Leaf(*leaf),
     };
-    to_each(alloc, asked.as_slice(), &ask)
+    to_each(alloc, asked.as_slice(), ask)
 }
 
 /// The open order of a split.

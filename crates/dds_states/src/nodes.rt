@@ -77,7 +77,18 @@ pub fn unknown_others(
 }
 
 /// The letter to each node.
-pub fn to_each(alloc: Global, nodes: &[NodeNo], letter: &Letter) -> Result<Outbox, Memory>
+pub fn to_each(alloc: Global, nodes: &[NodeNo], letter: Letter) -> Result<Outbox, Memory>
+    ensures { IfOk result (λ outbox. outbox ≡ to_each nodes.now letter) }
+{
+    let Some((last, others)) = nodes.split_last() else {
+        return Ok(Outbox::new(alloc));
+    };
+    let mut outbox = copy_to_each(alloc, others, &letter)?;
+    outbox.push(*last, letter)?;
+    Ok(outbox)
+}
+
+fn copy_to_each(alloc: Global, nodes: &[NodeNo], letter: &Letter) -> Result<Outbox, Memory>
     ensures { IfOk result (λ outbox. outbox ≡ to_each nodes.now letter.now) }
 {
     let mut outbox = Outbox::new(alloc);

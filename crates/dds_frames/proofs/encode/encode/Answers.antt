@@ -22,7 +22,7 @@ set_length-requires-clause-few c =
 
 pub returns : goal.returns
 returns c =
-    encoded c.fields.new.self c.set_length.new.self c.args.letter.now c.finish.result
+    encoded c.fields.new.self c.set_length.new.self c.finish.result c.args.letter.now
     (unmeasured c.number_4.new.self c.number_1.new.self c.number_1-2.new.self c.fields.new.self c.args.letter.now
     (c.in_ok-number_4.ensures ∙ ap (λ (t : List ℕ). t ++ number_bytes 4 0) c.in_ok-frame.ensures) c.in_ok-number_1.ensures
     (c.in_ok-number_1-2.ensures ∙ ap (λ (n : ℕ). c.number_1.new.self ++ number_bytes 1 n) (c.number.ensures.value ∙ ap tag_number c.tag_of.ensures))
