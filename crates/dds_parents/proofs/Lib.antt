@@ -1,0 +1,12 @@
+pub mod Makes
+pub mod OwnOrders
+pub mod Turns
+pub mod Lists
+pub mod Keeps
+pub mod Openings
+pub mod Parents
+pub mod Taken
+pub mod SplitLeaves
+pub mod Splits
+pub mod Served
+pub mod MembersStay

@@ -1,0 +1,4 @@
+pub mod Law
+pub mod Taken
+pub mod SplitLeaves
+pub mod Served

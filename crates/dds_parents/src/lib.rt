@@ -1,0 +1,4 @@
+//! What a leaf lists of the leaf that it came from.
+#![tactic(auto)]
+
+pub mod laws;
