@@ -64,7 +64,7 @@ of-order : (P : Leaf → Type 0) (x y : Option Leaf) (leaf : Leaf) → Each P x 
 of-order P x y leaf h (inl e) = each-is P x leaf e h.0
 of-order P x y leaf h (inr e) = each-is P y leaf e h.1
 
-known-leaf : (z : Sizes) (w : World) (leaf : Leaf) → IsSized z.bricks z.libraries w → (g : AreKnown (net z w)) → HasLeaf w leaf → Known g.book leaf
+pub known-leaf : (z : Sizes) (w : World) (leaf : Leaf) → IsSized z.bricks z.libraries w → (g : AreKnown (net z w)) → HasLeaf w leaf → Known g.book leaf
 known-leaf z _ _ sized g (in_brick w leaf it) =
     let ok : BrickOk it.brick g.book it.state = subst (NodeOk g.book it.brick) (brick-node w it.brick it.state it.there) (g.nodes it.brick) in
     each-is (Known g.book) (get it.state.leaves it.name) leaf it.is (ok.leaves it.name)

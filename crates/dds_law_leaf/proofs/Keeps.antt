@@ -33,10 +33,10 @@ pub record Goes (n : Net) (g : AreKnown n) (m : Net) : Type 0 where
   pub grows : Grows g.book known.book
 
 -- the letters that a node sends, wherever they come
-news : (b : Book) (z : Sizes) (at : ℕ) (ls : List (NodeNo × Letter)) → Letters b ls → News (LetterOk b) z at ls
+pub news : (b : Book) (z : Sizes) (at : ℕ) (ls : List (NodeNo × Letter)) → Letters b ls → News (LetterOk b) z at ls
 news b z at ls h to inside = all-map _ _ ls (λ (p : NodeNo × Letter) k lands. k) h
 
-heard : (z : Sizes) (n : Net) (at from : ℕ) (l : Letter) (g : AreKnown n) → IsFirst z n at from l → InLetter (Known g.book) l
+pub heard : (z : Sizes) (n : Net) (at from : ℕ) (l : Letter) (g : AreKnown n) → IsFirst z n at from l → InLetter (Known g.book) l
 heard z n at from l g f = first-all (LetterOk g.book from at) z n at from l f (g.letters from at)
 
 -- the book stays
@@ -110,7 +110,7 @@ does z cs n at o s g f h =
     }
 
 -- an order at a stopped brick
-stopped-order : (s : BrickState) (o : Order) → s.stopped ≡ true → brick_input s o ≡ answers s answered.Stopped
+pub stopped-order : (s : BrickState) (o : Order) → s.stopped ≡ true → brick_input s o ≡ answers s answered.Stopped
 stopped-order s (order.Join brick name via) e = rw e refl
 stopped-order s (order.Split brick name) e = rw e refl
 

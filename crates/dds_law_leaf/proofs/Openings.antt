@@ -18,7 +18,7 @@ use Rattle.dds_law_leaf.proofs.Stamps.{all_leaves, book_of, opening-known, openi
 
 -- Before the first step each leaf is one of the opening's.
 
-all-back : (P : Leaf → Type 0) (xs ys : List Leaf) → AllByRecursion P (xs ++ ys) → AllByRecursion P ys
+pub all-back : (P : Leaf → Type 0) (xs ys : List Leaf) → AllByRecursion P (xs ++ ys) → AllByRecursion P ys
 all-back P [] ys h = h
 all-back P (x ∷ xs) ys h = all-back P xs ys h.1
 
@@ -31,7 +31,7 @@ low-if w k s (is_library x there e) is = let no = sym e ∙ is in cc
 abbrev first_book : OpeningOf → Book
 first_book o = book_of (all_leaves o)
 
-start-brick : (o : OpeningOf) (k : ℕ) → IsOpening o → k < 64 → BrickOk k (first_book o) (new_brick o.leaves k)
+pub start-brick : (o : OpeningOf) (k : ℕ) → IsOpening o → k < 64 → BrickOk k (first_book o) (new_brick o.leaves k)
 start-brick o k h low =
     let P = Known (first_book o) in
     let mine = filter (λ (l : Leaf). has l.list k) o.leaves in
@@ -43,7 +43,7 @@ start-brick o k h low =
       live = λ e. record { number = refl; fresh = λ c le. opening-none o (record { maker = k; count = c }) h low; leaves = leaves; order = tt };
     }
 
-start-library : (o : OpeningOf) (n : ℕ) → IsOpening o → InLibrary (Known (first_book o)) (new_library o n)
+pub start-library : (o : OpeningOf) (n : ℕ) → IsOpening o → InLibrary (Known (first_book o)) (new_library o n)
 start-library o n h =
     let P = Known (first_book o) in
     let mine = filter (λ (l : Leaf). l.stamp.maker == 64 + n) o.old in
@@ -57,7 +57,7 @@ start-ok o k x h is (new_a_brick e) =
     subst (NodeOk (first_book o) k) (sym e) (start-brick o k h low)
 start-ok o k x h is (new_a_library high e) = subst (NodeOk (first_book o) k) (sym e) (start-library o (k - 64) h)
 
-none-bred : (o : OpeningOf) → IsOpening o → IsBred (first_book o)
+pub none-bred : (o : OpeningOf) → IsOpening o → IsBred (first_book o)
 none-bred o h st x low e = let no = sym (opening-none o st h low) ∙ e in cc
 
 pub start-known : (o : OpeningOf) → IsOpening o → AreKnown (net (sizes_of o) (start o).world)

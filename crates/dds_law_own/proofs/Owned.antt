@@ -129,7 +129,7 @@ none-if : (c : Bool) (l : Lease) (ls : List Lease) (name : Name) → overlaps l.
 none-if true l ls name f e k = cc
 none-if false l ls name f e k = (f, k e)
 
-none-leased : (ls : List Lease) (name : Name) → lease.leased ls name ≡ None → Unmet name ls
+pub none-leased : (ls : List Lease) (name : Name) → lease.leased ls name ≡ None → Unmet name ls
 none-leased [] name e = tt
 none-leased (l ∷ ls) name e = none-if (overlaps l.name name) l ls name refl e (none-leased ls name)
 

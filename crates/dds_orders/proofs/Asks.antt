@@ -75,7 +75,7 @@ asked-kept z few some h n e u built f g =
     }
 
 -- the opening
-start-asks : (o : OpeningOf) (k : ℕ) (x : Node) → IsNew o k x → NodeAsks k x
+pub start-asks : (o : OpeningOf) (k : ℕ) (x : Node) → IsNew o k x → NodeAsks k x
 start-asks o k x (no_node e) = subst (NodeAsks k) (sym e) tt
 start-asks o k x (new_a_brick e) = subst (NodeAsks k) (sym e) (λ p f. cc)
 start-asks o k x (new_a_library high e) = subst (NodeAsks k) (sym e) tt
@@ -91,7 +91,7 @@ run-asked o journal h run =
     }) run).is
 
 -- who is known has stopped
-over-is : {deaf stopped known : Bool} (c : List Letter) → Link deaf c stopped known → known ≡ true → stopped ≡ true
+pub over-is : {deaf stopped known : Bool} (c : List Letter) → Link deaf c stopped known → known ≡ true → stopped ≡ true
 over-is c (lives h) e = cc
 over-is c (told front is h) e = cc
 over-is c (over known is h) e = refl

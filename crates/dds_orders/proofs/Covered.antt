@@ -143,7 +143,7 @@ lease-meets P (l ∷ ls) name h all k =
 abbrev Leased : Own → Lease → Type 0
 Leased x l = IsOver x.leaves l.name × Free x.pending l
 
-not-either : (a b : Bool) → a ≡ false → (b ≡ true → a ≡ true) → b ≡ false
+pub not-either : (a b : Bool) → a ≡ false → (b ≡ true → a ≡ true) → b ≡ false
 not-either a true e f = sym (f refl) ∙ e
 not-either a false e f = refl
 

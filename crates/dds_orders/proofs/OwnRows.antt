@@ -151,7 +151,7 @@ leases_on s o before =
     goes-when (is_none_left o.waiting) (λ n. leased_all_at s o o.leaf refl (record { before = before; none = λ e. n })) (λ n. plain _ refl tt)
 
 -- an order that copies
-copying-ready : (o : OpenOrder) (source : NodeNo) → o.phase ≡ Copying source → IsReady o
+pub copying-ready : (o : OpenOrder) (source : NodeNo) → o.phase ≡ Copying source → IsReady o
 copying-ready o source e =
     record { before = ap order.is_installing e; none = λ h. let no : true ≡ false = sym h ∙ ap order.is_leasing e in cc }
 
@@ -211,7 +211,7 @@ split_order s name =
     goes-if s.stopped (answered-so s answered.Stopped)
     (goes-when (is_some s.order) (λ e. answered-so s answered.OrderOpen) (λ e. split_named s name (get s.leaves name) (is-none s.order e) refl))
 
-leasing-not : (p : OrderPhase) → order.is_leasing p ≡ true → order.is_installing p ≡ false
+pub leasing-not : (p : OrderPhase) → order.is_leasing p ≡ true → order.is_installing p ≡ false
 leasing-not Leasing h = refl
 leasing-not (Copying source) h = cc
 leasing-not (Installing made) h = cc

@@ -255,7 +255,7 @@ lease_refused_row s from number why =
     (λ o f. turns _ (is_refused number why o f) refl (own_rows.ended-seat (record s { order = None }) o (answered.Refused (order.met_of why from))))
     (λ h. refused_not number why h)
 
-source-is : (from : NodeNo) (p : OrderPhase) → order.is_source from p ≡ true → p ≡ Copying from
+pub source-is : (from : NodeNo) (p : OrderPhase) → order.is_source from p ≡ true → p ≡ Copying from
 source-is from Leasing h = cc
 source-is from (Copying source) h = ap Copying (sym (eqb-true from source h))
 source-is from (Installing made) h = cc

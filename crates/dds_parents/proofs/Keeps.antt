@@ -4,20 +4,16 @@ use Rattle.std.specs.FinMap.{get}
 use Rattle.std.specs.Prelude.{if◌then◌else◌}
 use Rattle.dds_base.specs.NodeSet.{has_node}
 use Rattle.dds_base.specs.declared.node_set.NodeSet.{NodeSet}
-use Rattle.dds_base.specs.declared.number.NodeNo.{NodeNo}
 use Rattle.dds_base.specs.declared.op.Order.{Order}
-use Rattle.dds_base.specs.declared.op.Order.TheVariants as order
-use Rattle.dds_base.specs.declared.op.OrderReply.TheVariants as answered
 use Rattle.dds_cluster.specs.declared.trace.Caller.{Caller}
 use Rattle.dds_core.proofs.Lists.{all-map}
 use Rattle.dds_core.specs.Brick.{brick_input, live_brick_turn}
-use Rattle.dds_law_leaf.proofs.Book.{AreKnown, Book, BrickOk, Grows, InCall, InLetter, InLibrary, Known, Leafed, LetterOk, NodeOk}
+use Rattle.dds_law_leaf.proofs.Book.{AreKnown, Book, BrickOk, Grows, InCall, InLibrary, Known, Leafed, LetterOk, NodeOk}
 use Rattle.dds_law_leaf.proofs.Bricks.{brick-turned, order-turned}
 use Rattle.dds_law_leaf.proofs.Libraries.{asked-goes, library-goes}
 use Rattle.dds_law_leaf.proofs.Maps.{each-map, in-empty}
-use Rattle.dds_law_leaf.proofs.Turns.{Grown, Letters, Turned, known-grown, map-grown, order-grown}
+use Rattle.dds_law_leaf.proofs.Turns.{Grown, Turned, known-grown, map-grown, order-grown}
 use Rattle.dds_law_notice.proofs.Keeps.{AreLinked}
-use Rattle.dds_law_notice.proofs.Link.{Link, lives, over, told}
 use Rattle.dds_law_notice.proofs.Views.{View, brick-does, brick-takes, knows, learns, view}
 use Rattle.dds_law_own.proofs.Changes.{own}
 use Rattle.dds_law_own.proofs.Keeps as owns
@@ -25,19 +21,18 @@ use Rattle.dds_law_own.proofs.Keeps.{of-another}
 use Rattle.dds_law_own.proofs.Parted.{IsBoth}
 use Rattle.dds_letters.specs.declared.letter.Letter.{Letter}
 use Rattle.dds_net.proofs.Carried.{AllCarried, Becomes, News, Sends, letters-moved, nodes-moved}
-use Rattle.dds_net.proofs.Letters.{first-all}
 use Rattle.dds_net.proofs.Puts.{at-put}
 use Rattle.dds_net.proofs.Runs.{IsKept}
 use Rattle.dds_net.specs.Event.{Event, nothing, unheard, unasked, brick_takes, brick_told, brick_stops, library_takes, library_asked, library_stops}
-use Rattle.dds_net.specs.Event.{Fits, IsFirst, moved}
+use Rattle.dds_net.specs.Event.{Fits, moved}
 use Rattle.dds_net.specs.Net.{Net, Node, nowhere, a_brick, a_library, Sizes, is_in, put}
-use Rattle.dds_order_rows.specs.OwnOrder.{answers}
 use Rattle.dds_orders.proofs.Asked.{AskedBy}
-use Rattle.dds_orders.proofs.Asks.{AreAsked, NodeAsks, asked-kept}
+use Rattle.dds_orders.proofs.Asks.{AreAsked, NodeAsks, asked-kept, over-is}
 use Rattle.dds_states.specs.Turn.{BrickTurn}
 use Rattle.dds_states.specs.declared.brick_state.BrickState.{BrickState}
 use Rattle.dds_states.specs.declared.library_state.OpenCall.{OpenCall}
 use Rattle.dds_world.specs.Groups.{call_leaf, letter_leaf}
+use Rattle.dds_law_leaf.proofs.Keeps.{heard, news, stopped-order}
 use Rattle.dds_parents.proofs.Lists.{AllList, HasGiven, given-later, lists-later, turned-given, turned-lists}
 use Rattle.dds_parents.proofs.Makes.{Makes}
 use Rattle.dds_parents.proofs.Turns.{known_after, letter-makes, order-makes}
@@ -84,21 +79,8 @@ gone-owed z cs n (library_stops at s kept) f = λ h. refl
 pub gone-later : (z : Sizes) (cs : List Caller) (n : Net) (e : Event) → Fits z cs n e → (k : ℕ) → Gone n k → Gone (moved z n e) k
 gone-later z cs n e f = nodes-moved (StillGone n) z n e (λ k h. h) (gone-owed z cs n e f)
 
--- and is known to no other
-over-is : {deaf stopped known : Bool} (c : List Letter) → Link deaf c stopped known → known ≡ true → stopped ≡ true
-over-is c (lives h) e = cc
-over-is c (told front is h) e = cc
-over-is c (over known is h) e = refl
-
 pub known-gone : (z : Sizes) (n : Net) (at k : ℕ) → AreLinked z n → is_in z at ≡ true → knows (view (n.node at)) k ≡ true → Gone n k
 known-gone z n at k links inside known = (and_parts (view (n.node k)).stopped (not (k == at)) (over-is _ (links k at inside) known)).0
-
--- letters
-news : (b : Book) (z : Sizes) (at : ℕ) (ls : List (NodeNo × Letter)) → Letters b ls → News (LetterOk b) z at ls
-news b z at ls h to inside = all-map _ _ ls (λ (p : NodeNo × Letter) k lands. k) h
-
-heard : (z : Sizes) (n : Net) (at from : ℕ) (l : Letter) (g : AreKnown n) → IsFirst z n at from l → InLetter (Known g.book) l
-heard z n at from l g f = first-all (LetterOk g.book from at) z n at from l f (g.letters from at)
 
 letters-later : (n : Net) (g : AreKnown n) (c : Book) → Grows g.book c → AllCarried (LetterOk c) n
 letters-later n g c grows a b =
@@ -180,11 +162,6 @@ turns z cs n e at s t known g f here live is h sends asked stops m =
 
 put-same : (nodes : ℕ → Node) (at : ℕ) (y : Node) → put at y nodes at ≡ y
 put-same nodes at y = ap (λ c. if c then y else nodes at) (eq-eqb at at refl)
-
--- an order at a stopped brick
-stopped-order : (s : BrickState) (o : Order) → s.stopped ≡ true → brick_input s o ≡ answers s answered.Stopped
-stopped-order s (order.Join brick name via) e = rw e refl
-stopped-order s (order.Split brick name) e = rw e refl
 
 ordered : (z : Sizes) (cs : List Caller) (n : Net) (at : ℕ) (o : Order) (s : BrickState) (c : Bool) (g : AreListed z n) → Fits z cs n (brick_told at o s)
     → AreAsked z (moved z n (brick_told at o s)) → s.stopped ≡ c → AreListed z (moved z n (brick_told at o s))

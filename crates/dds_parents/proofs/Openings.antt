@@ -1,26 +1,25 @@
-use Rattle.std.proofs.Common.{◌≡◌, ℕ, ◌+◌, ◌-◌, ◌<◌, ◌==◌, ◌++◌, inl, Bool, true, false, Some, List, [], ◌∷◌, refl, sym, ap, ◌∙◌, subst, arith}
+use Rattle.std.proofs.Common.{◌≡◌, ℕ, ◌+◌, ◌-◌, ◌<◌, ◌++◌, inl, Bool, true, false, Some, List, [], ◌∷◌, refl, sym, ap, ◌∙◌, subst, arith}
 use Rattle.std.specs.List.{AllByRecursion}
-use Rattle.std.specs.Prelude.{filter, nat_lt, if◌then◌else◌}
-use Rattle.dds_base.specs.BrickList.{has}
+use Rattle.std.specs.Prelude.{nat_lt, if◌then◌else◌}
 use Rattle.dds_base.specs.Number.{StampOf}
 use Rattle.dds_base.specs.declared.leaf.Leaf.{Leaf}
 use Rattle.dds_cluster.specs.Trace.{start}
-use Rattle.dds_cluster.specs.World.{World, new_brick, new_library}
-use Rattle.dds_core.proofs.Lists.{all-append, all-filter, all-front}
+use Rattle.dds_cluster.specs.World.{World, new_brick}
+use Rattle.dds_core.proofs.Lists.{all-append}
 use Rattle.dds_groups.specs.Leaves.{same_stamp}
-use Rattle.dds_law_leaf.proofs.Book.{Body, Book, BrickOk, InLibrary, InMap, IsBred, Known, LetterOk, NodeOk, body}
+use Rattle.dds_law_leaf.proofs.Book.{Body, Book, LetterOk, NodeOk, body}
 use Rattle.dds_law_leaf.proofs.Making.{stamp-is}
-use Rattle.dds_law_leaf.proofs.Maps.{in-all, in-empty}
-use Rattle.dds_law_leaf.proofs.Stamps.{all_leaves, book_of, opening-known, opening-none}
+use Rattle.dds_law_leaf.proofs.Stamps.{all_leaves, book_of}
 use Rattle.dds_law_notice.proofs.Last.{start-links}
 use Rattle.dds_law_own.proofs.Runs.{start-own}
 use Rattle.dds_net.proofs.Nodes.{brick-low}
 use Rattle.dds_net.proofs.Opening.{IsNew, new_a_brick, new_a_library, no_node, start-channel, start-node}
 use Rattle.dds_net.proofs.Ways.{NodeIs, is_brick, is_library, is_nowhere, node-is}
 use Rattle.dds_net.specs.Net.{Node, nowhere, a_brick, a_library, net, node_at, sizes_of}
-use Rattle.dds_orders.proofs.Asks.{NodeAsks}
+use Rattle.dds_orders.proofs.Asks.{start-asks}
 use Rattle.dds_script.specs.Opening.{AreOpeningLeaves, AreStaleLeaves, IsOpening, OpeningOf}
 use Rattle.dds_states.specs.declared.brick_state.BrickState.{BrickState}
+use Rattle.dds_law_leaf.proofs.Openings.{none-bred, start-brick, start-library}
 use Rattle.dds_parents.proofs.Keeps.{AreListed, NodeGives}
 use Rattle.dds_parents.proofs.Lists.{Lists}
 
@@ -29,34 +28,11 @@ use Rattle.dds_parents.proofs.Lists.{Lists}
 abbrev first_book : OpeningOf → Book
 first_book o = book_of (all_leaves o)
 
-all-back : (P : Leaf → Type 0) (xs ys : List Leaf) → AllByRecursion P (xs ++ ys) → AllByRecursion P ys
-all-back P [] ys h = h
-all-back P (x ∷ xs) ys h = all-back P xs ys h.1
-
 -- a brick's number is low
 low-if : (w : World) (k : ℕ) (s : BrickState) → NodeIs w k → node_at w k ≡ a_brick s → k < 64
 low-if w k s (is_nowhere e) is = let no : nowhere ≡ a_brick s = sym e ∙ is in cc
 low-if w k s (is_brick x there e) is = brick-low w k x (nat_lt k 64) refl there
 low-if w k s (is_library x there e) is = let no : a_library x ≡ a_brick s = sym e ∙ is in cc
-
-start-brick : (o : OpeningOf) (k : ℕ) → IsOpening o → k < 64 → BrickOk k (first_book o) (new_brick o.leaves k)
-start-brick o k h low =
-    let P = Known (first_book o) in
-    let mine = filter (λ (l : Leaf). has l.list k) o.leaves in
-    let all = all-filter P (λ (l : Leaf). has l.list k) o.leaves (all-front P o.leaves o.old (opening-known o h)) in
-    let leaves : InMap P (new_brick o.leaves k).leaves = in-all P _ mine all (in-empty P) in
-    record {
-      leaves = leaves;
-      order = tt;
-      live = λ e. record { number = refl; fresh = λ c le. opening-none o (record { maker = k; count = c }) h low; leaves = leaves; order = tt };
-    }
-
-start-library : (o : OpeningOf) (n : ℕ) → IsOpening o → InLibrary (Known (first_book o)) (new_library o n)
-start-library o n h =
-    let P = Known (first_book o) in
-    let mine = filter (λ (l : Leaf). l.stamp.maker == 64 + n) o.old in
-    let old = all-filter P (λ (l : Leaf). l.stamp.maker == 64 + n) o.old (all-back P o.leaves o.old (opening-known o h)) in
-    record { map = in-all P _ mine old (in-all P _ o.leaves (all-front P o.leaves o.old (opening-known o h)) (in-empty P)); calls = tt }
 
 start-ok : (o : OpeningOf) (k : ℕ) (x : Node) → IsOpening o → node_at (start o).world k ≡ x → IsNew o k x
     → NodeOk (first_book o) k x × NodeGives (first_book o) k x
@@ -67,14 +43,6 @@ start-ok o k x h is (new_a_brick e) =
     (start-brick o k h low, record { low = low; given = λ f c lt. let no : c < 0 = lt in absurd (omega (arith, no)) })
 start-ok o k x h is (new_a_library high e) =
     subst (λ (y : Node). NodeOk (first_book o) k y × NodeGives (first_book o) k y) (sym e) (start-library o (k - 64) h, tt)
-
-none-bred : (o : OpeningOf) → IsOpening o → IsBred (first_book o)
-none-bred o h st x low e = let no = sym (opening-none o st h low) ∙ e in cc
-
-start-asks : (o : OpeningOf) (k : ℕ) (x : Node) → IsNew o k x → NodeAsks k x
-start-asks o k x (no_node e) = subst (NodeAsks k) (sym e) tt
-start-asks o k x (new_a_brick e) = subst (NodeAsks k) (sym e) (λ p f. cc)
-start-asks o k x (new_a_library high e) = subst (NodeAsks k) (sym e) tt
 
 -- leaves that came from themselves
 abbrev IsFirst : Leaf → Type 0

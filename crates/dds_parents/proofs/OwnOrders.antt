@@ -25,9 +25,9 @@ use Rattle.dds_locks.specs.Pending.{any_under}
 use Rattle.dds_order_rows.specs.Orders as orders
 use Rattle.dds_order_rows.specs.OwnOrder as order
 use Rattle.dds_orders.proofs.Asked.{Orderly, heard-asked}
-use Rattle.dds_orders.proofs.Deeds.{IsReady, MayWiden, fixes, loses, seat, splits}
-use Rattle.dds_orders.proofs.OwnRows.{holding}
-use Rattle.dds_orders.proofs.Turns.{Finds, copies, grants}
+use Rattle.dds_orders.proofs.Deeds.{MayWiden, fixes, loses, seat, splits}
+use Rattle.dds_orders.proofs.OwnRows.{holding, leasing-not, copying-ready}
+use Rattle.dds_orders.proofs.Turns.{Finds, copies, grants, source-is}
 use Rattle.dds_states.specs.Turn.{BrickTurn, without}
 use Rattle.dds_states.specs.declared.brick_state.BrickState.{BrickState}
 use Rattle.dds_states.specs.declared.brick_state.OpenOrder.{OpenOrder}
@@ -42,20 +42,6 @@ use Rattle.dds_parents.proofs.Makes.{MakesFrom, copied_all, copies_from, deed-or
 order-old : (Old : Leaf → Type 0) (q : Option OpenOrder) (o : OpenOrder) → q ≡ Some o → InOrder Old q → Each Old o.leaf
 order-old Old None o e h = cc
 order-old Old (Some p) o e h = let is : p ≡ o = cc in subst (λ (x : OpenOrder). Each Old x.leaf) is h.0
-
-leasing-not : (p : OrderPhase) → order.is_leasing p ≡ true → order.is_installing p ≡ false
-leasing-not Leasing h = refl
-leasing-not (Copying source) h = cc
-leasing-not (Installing made) h = cc
-
-source-is : (from : NodeNo) (p : OrderPhase) → order.is_source from p ≡ true → p ≡ Copying from
-source-is from Leasing h = cc
-source-is from (Copying source) h = ap Copying (sym (eqb-true from source h))
-source-is from (Installing made) h = cc
-
-copying-ready : (o : OpenOrder) (source : NodeNo) → o.phase ≡ Copying source → IsReady o
-copying-ready o source e =
-    record { before = ap order.is_installing e; none = λ h. let no : true ≡ false = sym h ∙ ap order.is_leasing e in cc }
 
 module _ (Old : Leaf → Type 0) (me : ℕ) where
   -- letters to the open order

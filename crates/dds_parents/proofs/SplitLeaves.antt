@@ -1,8 +1,7 @@
-use Rattle.std.proofs.Common.{◌≡◌, ℕ, ◌==◌, ◌||◌, ◌++◌, ◌⊎◌, inl, inr, Bool, true, false, Option, Some, None, List, [], ◌∷◌, refl, sym, ap, ◌∙◌, subst}
+use Rattle.std.proofs.Common.{◌≡◌, ℕ, ◌==◌, ◌||◌, ◌++◌, ◌⊎◌, inl, inr, true, false, Option, Some, None, List, [], ◌∷◌, refl, sym, ap, ◌∙◌, subst}
 use Rattle.std.proofs.lemmas.Bool.{and_parts, cases_Bool, eqb-true}
 use Rattle.std.specs.FinMap.{get}
 use Rattle.std.specs.List.{AllByRecursion}
-use Rattle.std.specs.Prelude.{if◌then◌else◌}
 use Rattle.dds_base.specs.Name.{Name, overlaps, same_name}
 use Rattle.dds_base.specs.declared.leaf.Leaf.{Leaf}
 use Rattle.dds_base.specs.declared.number.NodeNo.{NodeNo}
@@ -11,14 +10,14 @@ use Rattle.dds_core.proofs.Lists.{all-both, all-map}
 use Rattle.dds_law_own.proofs.Changes.{MayInstall, Own}
 use Rattle.dds_law_own.proofs.Disjoint.{replaces}
 use Rattle.dds_law_own.proofs.Halves.{overlap-sym}
-use Rattle.dds_law_own.proofs.Owned.{Apart}
+use Rattle.dds_law_own.proofs.Owned.{Apart, none-leased}
 use Rattle.dds_law_own.proofs.Parted.{IsBoth}
 use Rattle.dds_letters.specs.declared.letter.Letter.{Letter}
 use Rattle.dds_locks.specs.Leases as lease
 use Rattle.dds_locks.specs.declared.leases.Lease.{Lease}
 use Rattle.dds_net.proofs.Pairwise.{Pairwise}
 use Rattle.dds_order_rows.specs.OwnOrder as order
-use Rattle.dds_orders.proofs.Covered.{given-is, lease-meets, mine-meets}
+use Rattle.dds_orders.proofs.Covered.{given-is, lease-meets, mine-meets, not-either}
 use Rattle.dds_orders.proofs.Deeds.{Deed, Path, Seat, asks_more, closes, copies, drops, fixes, joins, loses, makes, over, pends, says, serves}
 use Rattle.dds_orders.proofs.Deeds.{splits, step, takes}
 use Rattle.dds_orders.proofs.Leased.{replaced-apart}
@@ -67,15 +66,6 @@ leaf-stays m k q f h o e j = let it = h o e j in record { leaf = it.leaf; fixed 
 abbrev Unmet : Name → List Lease → Type 0
 Unmet name ls = AllByRecursion (λ (l : Lease). overlaps l.name name ≡ false) ls
 
-none-if : (c : Bool) (l : Lease) (ls : List Lease) (name : Name) → overlaps l.name name ≡ c → (if c then Some l.holder else lease.leased ls name) ≡ None
-    → (lease.leased ls name ≡ None → Unmet name ls) → Unmet name (l ∷ ls)
-none-if true l ls name f e k = cc
-none-if false l ls name f e k = (f, k e)
-
-none-leased : (ls : List Lease) (name : Name) → lease.leased ls name ≡ None → Unmet name ls
-none-leased [] name e = tt
-none-leased (l ∷ ls) name e = none-if (overlaps l.name name) l ls name refl e (none-leased ls name)
-
 leased-apart : (ls : List Lease) (x y : Name) (j : ℕ) → lease.leased ls y ≡ None → lease.is_given ls x j ≡ true → overlaps x y ≡ false
 leased-apart ls x y j e g =
     let it = given-is (λ (l : Lease). overlaps l.name y ≡ false) ls x j (none-leased ls y e) g in subst (λ n. overlaps n y ≡ false) it.1 it.2
@@ -98,10 +88,6 @@ its-clear : (l : Lease) (n : Name) (j from : ℕ) → (from ≡ j → ⊥) → (
 its-clear l n j from ne h (inl e) =
     absurd (ne (sym (eqb-true l.holder from h) ∙ eqb-true l.holder j (and_parts (l.holder == j) (same_name l.name n) e).0))
 its-clear l n j from ne h (inr c) = c
-
-not-either : (a b : Bool) → a ≡ false → (b ≡ true → a ≡ true) → b ≡ false
-not-either a true e f = sym (f refl) ∙ e
-not-either a false e f = refl
 
 installs-apart : (me from : ℕ) (x : Own) (mine leaf : Leaf) (n : Name) (j : ℕ) → IsBoth me x → Standing x → MayInstall x mine leaf from → (from ≡ j → ⊥)
     → lease.is_given x.leases n j ≡ true → overlaps n mine.name ≡ false

@@ -16,9 +16,10 @@ use Rattle.dds_net.proofs.Runs.{sized-run}
 use Rattle.dds_net.specs.Net.{net, sizes_of}
 use Rattle.dds_world.specs.Groups.{HasLeaf}
 use Rattle.dds_world.specs.Places.{reached}
+use Rattle.dds_law_leaf.proofs.Ever.{known-leaf}
 use Rattle.dds_parents.proofs.Keeps.{Gone, known-gone}
 use Rattle.dds_parents.proofs.Lists.{AllList, beside-lists, next-lists}
-use Rattle.dds_parents.proofs.Parents.{gone-not, known-leaf, run-listed}
+use Rattle.dds_parents.proofs.Parents.{gone-not, run-listed}
 use Rattle.dds_parents.specs.Taken.{TakenLeavesList}
 
 -- A leaf that is taken or installed in the place of another one lists that one's members, but for those that have stopped.
