@@ -1,5 +1,6 @@
 use Rattle.std.proofs.Common.{◌≡◌, Bool, true, false, List, [], ◌∷◌, Option, Some, None, refl}
 use Rattle.std.specs.List.{AllByRecursion}
+use Rattle.dds_answered.proofs.Runs.{answered-calls-stand}
 use Rattle.dds_base.specs.Op.{is_get}
 use Rattle.dds_calls.proofs.Entries.{entries-are-calls}
 use Rattle.dds_calls.proofs.Gets.{gets-stand-answered}
@@ -47,6 +48,7 @@ calls-are-kept o journal h run =
     let once = updates-stand-once o journal h run in
     let never = refused-updates-stand-never o journal h run in
     record {
+      answered_once = answered-calls-stand o journal h run;
       refused_never = all-refused t.told (placed_history t) t.asked gets once never;
       unanswered_once_or_never = all-unanswered t.told (placed_history t) t.asked gets once never;
       entries_are_calls = entries-are-calls o journal h.ranges run;

@@ -11,8 +11,9 @@ pub fn commit_kept()
     ensures { CommitIsKept }
 {}
 
-/// In each run, with stops, splits and joins: a call that was refused has no entry in the history; one that is open or was answered with
-/// no result has at most one, behind its input, an open get none; and each entry is of a call that was asked, and has its operation.
+/// In each run, with stops, splits and joins: a call that was answered with a result has one entry in the history, between its input and its
+/// answer, a get's with the reply that was answered; a call that was refused has none; one that is open or was answered with no result has
+/// at most one, behind its input, an open get none; and each entry is of a call that was asked, and has its operation.
 pub fn calls_are_kept()
     ensures { CallsAreKept }
 {}
