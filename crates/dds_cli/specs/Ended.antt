@@ -23,9 +23,9 @@ pub record IsProvedToStand (script : Script) : Type 0 where
   pub first : script.opening ≡ first_opening
   pub plain : list_all is_plain_line script.lines ≡ true
 
--- the journal is the one that the script determines, and a run; each Again, Full and Lost has its cause in it; refused calls don't
--- stand in its history, calls without a result once or never, and nothing but calls does; and where the script is one of those
--- that are proved to stand, all calls stand in one legal history of one map
+-- the journal is the one that the script determines, and a run; each Again, Full and Lost has its cause in it; calls with a result stand
+-- in its history once, refused ones never, the others once or never, and nothing but calls does; and where the script is one of those
+-- that are proved to stand, that history is one of one map
 pub record IsRunOf (script : Script) (journal : List Step) : Type 0 where
   pub follows : journal ≡ steps script
   pub run : is_run script.opening journal ≡ true
