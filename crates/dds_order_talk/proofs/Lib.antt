@@ -1,0 +1,13 @@
+pub mod Members
+pub mod Kept
+pub mod HearsOthers
+pub mod Letters
+pub mod Runs
+pub mod Moves
+pub mod Lines
+pub mod Holds
+pub mod Projections
+pub mod MemberSide
+pub mod MemberHears
+pub mod OrderViews
+pub mod OrderBegins
