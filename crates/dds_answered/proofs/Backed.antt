@@ -2,7 +2,7 @@ use Rattle.std.proofs.Common.{◌≡◌, ℕ, inl, inr, true, false, List, [], �
 use Rattle.std.proofs.lemmas.Bool.{both_ways}
 use Rattle.std.specs.FinMap.{get}
 use Rattle.std.specs.List.{AllByRecursion}
-use Rattle.dds_attempts.proofs.PointRows.{PointHas, turn-points}
+use Rattle.dds_outcomes.proofs.PointRows.{PointHas, turn-points}
 use Rattle.dds_base.specs.Name.{Name}
 use Rattle.dds_base.specs.Number.{Txn, StampOf}
 use Rattle.dds_base.specs.Op.{is_get}

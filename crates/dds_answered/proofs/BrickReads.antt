@@ -1,6 +1,5 @@
 use Rattle.std.proofs.Common.{◌≡◌, ℕ, ◌≤◌, ◌++◌, List, ◌∷◌, subst}
 use Rattle.std.specs.List.{AllByRecursion}
-use Rattle.dds_attempts.proofs.Held.{all-kept-are}
 use Rattle.dds_attempts.proofs.Runs.{Stands}
 use Rattle.dds_base.specs.declared.number.NodeNo.{NodeNo}
 use Rattle.dds_books.specs.Books.{Book}
@@ -21,6 +20,7 @@ use Rattle.dds_net.specs.Event.{Fits, History, goes, moved, brick_takes}
 use Rattle.dds_net.specs.Net.{Net, a_brick, Sizes, gains}
 use Rattle.dds_outcomes.proofs.Entries.{NodeHas}
 use Rattle.dds_outcomes.proofs.PendingRows.{AllPending}
+use Rattle.dds_outcomes.proofs.Points.{kept-all}
 use Rattle.dds_states.specs.Turn.{BrickTurn}
 use Rattle.dds_states.specs.declared.brick_state.BrickState.{BrickState}
 use Rattle.dds_talk.specs.Books as talk
@@ -92,7 +92,7 @@ module _ (z : Sizes) (few : z.bricks ≤ 64) (h : History) (n : Net) (b : Book �
   between : AllByRecursion (λ x. AllByRecursion (OtherRead x) (all_kept h.made points)) h.made
   between =
       all-each _ h.made (λ i x there.
-      all-kept-are (OtherRead x) h.made points
+      kept-all (OtherRead x) h.made points
       (all-map (ReadBy l) (OtherRead x) points
       (λ m q gx gm same. all-is (NotReadOf m.txn) h.made i x (first m.txn (q gm)).unread there gx same) reads))
 
@@ -102,7 +102,7 @@ module _ (z : Sizes) (few : z.bricks ≤ 64) (h : History) (n : Net) (b : Book �
         to_come = nodes-moved (λ i x. LibraryIs (ToCome g i) x) z n (brick_takes at from l s) r.to_come tt;
         letters = letters-then;
         apart = takes-apart z n at from (a_brick turn.state) turn.out.letters none r.apart;
-        sought = all-append (IsSought g) h.made (all_kept h.made points) r.sought (all-kept-are (IsSought g) h.made points new-sought);
+        sought = all-append (IsSought g) h.made (all_kept h.made points) r.sought (kept-all (IsSought g) h.made points new-sought);
         once = pairs-append OtherRead h.made (all_kept h.made points) r.once
             (kept-pairs OtherRead h.made points (points-once h.steps s from l updates)) between;
       }

@@ -1,6 +1,5 @@
 use Rattle.std.proofs.Common.{◌≡◌, ℕ, ◌+◌, ◌<◌, ◌++◌, Option, List, [], ◌∷◌, refl, subst, arith}
 use Rattle.std.specs.List.{AllByRecursion}
-use Rattle.dds_attempts.proofs.Held.{all-kept-are}
 use Rattle.dds_attempts.proofs.Runs.{Stands}
 use Rattle.dds_base.specs.Number.{Txn}
 use Rattle.dds_base.specs.declared.number.NodeNo.{NodeNo}
@@ -23,6 +22,7 @@ use Rattle.dds_net.specs.Event.{Event, Fits, History, asked_turn, goes, points_o
 use Rattle.dds_net.specs.Event.{brick_stops, library_asked, library_stops, library_takes}
 use Rattle.dds_net.specs.Net.{Net, Node, nowhere, a_brick, a_library, Sizes}
 use Rattle.dds_outcomes.proofs.Entries.{NodeHas}
+use Rattle.dds_outcomes.proofs.Points.{kept-all}
 use Rattle.dds_states.specs.declared.turn.Point.{Point}
 use Rattle.dds_states.specs.declared.turn.Point.TheVariants as point
 use Rattle.dds_talk.specs.Books as talk
@@ -119,7 +119,7 @@ places-then : (h : History) (e : Event) → AllByRecursion (λ (m : Made). m.pla
 places-then h e g =
     let Q = (λ (m : Made). m.place < h.steps + 1) in
     all-append Q h.made (all_kept h.made (points_of h.steps e)) (all-map (λ (m : Made). m.place < h.steps) Q h.made (λ m low. omega (arith, low)) g)
-    (all-kept-are Q h.made (points_of h.steps e) (all-map (IsAt h.steps) Q (points_of h.steps e) (λ m here. omega (arith, here)) (points-at h.steps e)))
+    (kept-all Q h.made (points_of h.steps e) (all-map (IsAt h.steps) Q (points_of h.steps e) (λ m here. omega (arith, here)) (points-at h.steps e)))
 
 abbrev pub AreBackedOver : (z : Sizes) → (h : History) → Net → Book × talk.Books → Unit {0} → Type 0
 AreBackedOver z h n b u = AreBacked h n b.0

@@ -3,8 +3,7 @@ use Rattle.std.proofs.lemmas.Bool.{both_ways}
 use Rattle.std.specs.FinMap.{get}
 use Rattle.std.specs.List.{AllByRecursion}
 use Rattle.std.specs.Prelude.{if◌then◌else◌}
-use Rattle.dds_attempts.proofs.Held.{all-kept-are}
-use Rattle.dds_attempts.proofs.PointRows.{PointHas, turn-points}
+use Rattle.dds_outcomes.proofs.PointRows.{PointHas, turn-points}
 use Rattle.dds_base.specs.Number.{Txn}
 use Rattle.dds_base.specs.Op.{is_get}
 use Rattle.dds_base.specs.declared.number.NodeNo.{NodeNo}
@@ -20,6 +19,7 @@ use Rattle.dds_letters.specs.declared.letter.Letter.TheVariants as letter
 use Rattle.dds_letters.specs.declared.refusal.Refusal.{Refusal}
 use Rattle.dds_net.proofs.Pairwise.{Pairwise}
 use Rattle.dds_outcomes.proofs.PendingRows.{AllPending}
+use Rattle.dds_outcomes.proofs.Points.{kept-all}
 use Rattle.dds_states.specs.declared.brick_state.BrickState.{BrickState}
 use Rattle.dds_states.specs.declared.turn.Point.{Point}
 use Rattle.dds_states.specs.declared.turn.Point.TheVariants as point
@@ -109,4 +109,4 @@ pub kept-pairs : (R : Made → Made → Type 0) (made ms : List Made) → Pairwi
 kept-pairs R made [] h = tt
 kept-pairs R made (m ∷ ms) h =
     kept-if R (not (is_get m.entry.op) && is_applied made m.txn) m (all_kept (made ++ kept made m) ms)
-    (all-kept-are (R m) (made ++ kept made m) ms h.0) (kept-pairs R (made ++ kept made m) ms h.1)
+    (kept-all (R m) (made ++ kept made m) ms h.0) (kept-pairs R (made ++ kept made m) ms h.1)

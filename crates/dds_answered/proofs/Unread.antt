@@ -2,7 +2,6 @@ use Rattle.std.proofs.Common.{◌≡◌, ℕ, ◌≤◌, ◌++◌, true, Some, N
 use Rattle.std.proofs.lemmas.Bool.{eqb-true}
 use Rattle.std.proofs.lemmas.List.{append-nil}
 use Rattle.std.specs.List.{AllByRecursion}
-use Rattle.dds_attempts.proofs.Held.{all-kept-are}
 use Rattle.dds_base.specs.Number.{Txn}
 use Rattle.dds_base.specs.Op.{is_get}
 use Rattle.dds_base.specs.declared.number.NodeNo.{NodeNo}
@@ -20,6 +19,7 @@ use Rattle.dds_net.proofs.Nodes.{brick-place}
 use Rattle.dds_net.proofs.Pairwise.{Pairwise, pairs-append}
 use Rattle.dds_net.specs.Event.{History, takes}
 use Rattle.dds_net.specs.Net.{Net, Node, Sizes, changed, gains, lands, place_in}
+use Rattle.dds_outcomes.proofs.Points.{kept-all}
 use Rattle.dds_states.specs.declared.library_state.LibraryState.{LibraryState}
 use Rattle.dds_answered.proofs.Channels.{rest-pairs, takes-channels}
 use Rattle.dds_answered.proofs.Reading.{OtherRead, ReadBy}
@@ -120,7 +120,7 @@ unread-then : (made ps : List Made) (l : Letter) (t : Txn) → (get_of l ≡ Som
     → AllByRecursion (NotReadOf t) (made ++ all_kept made ps)
 unread-then made ps l t other h k =
     all-append (NotReadOf t) made (all_kept made ps) k
-    (all-kept-are (NotReadOf t) made ps (all-map (ReadBy l) (NotReadOf t) ps (λ m q g same. other (q g ∙ ap Some same)) h))
+    (kept-all (NotReadOf t) made ps (all-map (ReadBy l) (NotReadOf t) ps (λ m q g same. other (q g ∙ ap Some same)) h))
 
 pub unread-with : (z : Sizes) (g : Sought) (made ps : List Made) (l : Letter) (b : ℕ) (t : Txn) → (get_of l ≡ Some t → ⊥) → AllByRecursion (ReadBy l) ps
     → IsUnread z g made b t → IsUnread z g (made ++ all_kept made ps) b t

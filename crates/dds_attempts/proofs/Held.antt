@@ -1,15 +1,13 @@
-use Rattle.std.proofs.Common.{◌≡◌, ℕ, ◌≤◌, ◌&&◌, ◌||◌, Bool, true, false, not, Option, Some, None, List, [], ◌∷◌, ◌++◌, refl, sym, ap, ◌∙◌, subst}
+use Rattle.std.proofs.Common.{◌≡◌, ℕ, ◌≤◌, ◌||◌, Bool, true, false, Option, Some, None, List, [], ◌∷◌, refl, sym, ap, ◌∙◌, subst}
 use Rattle.std.specs.FinMap.{get}
 use Rattle.std.specs.List.{AllByRecursion}
-use Rattle.std.specs.Prelude.{is_some, if◌then◌else◌}
+use Rattle.std.specs.Prelude.{is_some}
 use Rattle.dds_base.specs.Number.{Txn}
-use Rattle.dds_base.specs.Op.{is_get}
 use Rattle.dds_base.specs.declared.pending.Pending.{Pending}
 use Rattle.dds_books.proofs.There.{library-there}
 use Rattle.dds_books.specs.Books.{AreListed, Book, Entry, IsBooked, LibraryListed, NodeListed}
 use Rattle.dds_books.specs.Calls.{LibraryIs}
 use Rattle.dds_books.specs.Placed.{ArePlaced, BrickOk, Made, NodeOk, PendingOk}
-use Rattle.dds_cluster.specs.Trace.{all_kept, is_applied, kept}
 use Rattle.dds_cluster.specs.Turn.{points_made, read_by}
 use Rattle.dds_cluster.specs.declared.trace.Made as trace
 use Rattle.dds_commit.proofs.Opens.{each-pending}
@@ -30,7 +28,7 @@ use Rattle.dds_talk.specs.Parts.{Commit}
 use Rattle.dds_talk.specs.Seen.{call_of, is_pending}
 use Rattle.dds_attempts.proofs.Claim.{IsLast, IsNewest, PointIs}
 use Rattle.dds_attempts.proofs.Found.{call-at}
-use Rattle.dds_attempts.proofs.PointRows.{PointHas}
+use Rattle.dds_outcomes.proofs.PointRows.{PointHas}
 use Rattle.dds_attempts.proofs.Views.{held-open}
 
 -- What a live brick has pending is its call's last attempt, and so is what it applies.
@@ -106,17 +104,6 @@ points-are a b at place l u (point.Applied p was ∷ ps) h g = (
   },
   points-are a b at place l u ps h.1 g.1,
 )
-
--- of those the ones that are kept
-one-kept : (P : trace.Made → Type 0) (c : Bool) (m : trace.Made) → P m → AllByRecursion P (if c then [] else m ∷ [])
-one-kept P true m h = tt
-one-kept P false m h = (h, tt)
-
-pub all-kept-are : (P : trace.Made → Type 0) (made ms : List trace.Made) → AllByRecursion P ms → AllByRecursion P (all_kept made ms)
-all-kept-are P made [] h = tt
-all-kept-are P made (m ∷ ms) h =
-    all-append P (kept made m) (all_kept (made ++ kept made m) ms) (one-kept P (not (is_get m.entry.op) && is_applied made m.txn) m h.0)
-    (all-kept-are P (made ++ kept made m) ms h.1)
 
 -- they stay so while the book of attempts does
 pub applied-stays : (a : Book) (b c : talk.Books) (m : trace.Made) → ((t : Txn) → b.decided t ≡ true → c.decided t ≡ true) → PointIs a b m → PointIs a c m

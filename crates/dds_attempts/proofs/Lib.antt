@@ -6,7 +6,6 @@ pub mod Found
 pub mod Library
 pub mod Views
 pub mod Decided
-pub mod PointRows
 pub mod Held
 pub mod Whole
 pub mod Since

@@ -32,6 +32,7 @@ use Rattle.dds_net.specs.Net.{Net, Node, nowhere, a_brick, a_library, Sizes, put
 use Rattle.dds_outcomes.proofs.Entries.{ArePending, pending-kept}
 use Rattle.dds_outcomes.proofs.Grows.{decided-grows}
 use Rattle.dds_outcomes.proofs.Marks.{turn-marked}
+use Rattle.dds_outcomes.proofs.Points.{kept-all}
 use Rattle.dds_states.specs.declared.brick_state.BrickState.{BrickState}
 use Rattle.dds_states.specs.declared.library_state.LibraryState.{LibraryState}
 use Rattle.dds_talk.proofs.BrickEvents.{old-decided}
@@ -42,9 +43,9 @@ use Rattle.dds_talk.specs.Parts.{Commit}
 use Rattle.dds_attempts.proofs.Callers.{CallersGo, callers-go, may-least}
 use Rattle.dds_attempts.proofs.Claim.{AreCommitting, AreLast, AreNewest, Commits, PointIs}
 use Rattle.dds_attempts.proofs.Decided.{brick-commits, commits-then, lists-then, or-is, yes-is}
-use Rattle.dds_attempts.proofs.Held.{IsHeld, all-held, all-kept-are, applied-stays, points-are}
+use Rattle.dds_attempts.proofs.Held.{IsHeld, all-held, applied-stays, points-are}
 use Rattle.dds_attempts.proofs.Library.{Turn, applied-then, entries-later, entries-then, newest-then}
-use Rattle.dds_attempts.proofs.PointRows.{turn-points}
+use Rattle.dds_outcomes.proofs.PointRows.{turn-points}
 use Rattle.dds_attempts.proofs.Turns.{Comes, NoCall, ThisCall, Tracked, asked-tracked, library-tracked}
 
 -- Each event keeps what is so of a call's attempts.
@@ -57,7 +58,7 @@ library-map P Q (a_library s) f h = f s h
 
 made-then : (h : History) (e : Event) (P : made.Made → Type 0) → AllByRecursion P h.made → AllByRecursion P (points_of h.steps e)
     → AllByRecursion P (goes h e).made
-made-then h e P g k = all-append P h.made (all_kept h.made (points_of h.steps e)) g (all-kept-are P h.made (points_of h.steps e) k)
+made-then h e P g k = all-append P h.made (all_kept h.made (points_of h.steps e)) g (kept-all P h.made (points_of h.steps e) k)
 
 -- an event that changes no book and no library's calls
 rests : (z : Sizes) (h : History) (n : Net) (e : Event) (a : Book) (b : talk.Books) → IsBuilt z n → Fits z h.callers n e

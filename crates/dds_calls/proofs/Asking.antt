@@ -1,13 +1,12 @@
-use Rattle.std.proofs.Common.{◌≡◌, ℕ, ◌+◌, ◌<◌, ◌&&◌, Bool, true, false, not, Option, List, [], ◌∷◌, ◌++◌, length}
+use Rattle.std.proofs.Common.{◌≡◌, ℕ, ◌+◌, ◌<◌, true, Option, List, [], ◌∷◌, ◌++◌, length}
 use Rattle.std.proofs.Common.{refl, sym, ap, subst, arith}
 use Rattle.std.specs.List.{AllByRecursion}
-use Rattle.std.specs.Prelude.{slice_get, if◌then◌else◌}
+use Rattle.std.specs.Prelude.{slice_get}
 use Rattle.dds_base.specs.Number.{Txn}
-use Rattle.dds_base.specs.Op.{is_get}
 use Rattle.dds_base.specs.declared.number.CallNo.{CallNo}
 use Rattle.dds_base.specs.declared.number.NodeNo.{NodeNo}
 use Rattle.dds_base.specs.declared.op.Op.{Op}
-use Rattle.dds_cluster.specs.Trace.{all_kept, is_applied, kept, may_call, opens, start}
+use Rattle.dds_cluster.specs.Trace.{all_kept, kept, may_call, opens, start}
 use Rattle.dds_cluster.specs.Turn.{points_made, read_by}
 use Rattle.dds_cluster.specs.declared.trace.Asked.{Asked}
 use Rattle.dds_cluster.specs.declared.trace.Caller.{Caller}
@@ -30,11 +29,12 @@ use Rattle.dds_net.specs.Event.{Event, nothing, unheard, unasked, brick_takes, b
 use Rattle.dds_net.specs.Event.{Fits, History, asked_of, asked_turn, history_of, opened_of, points_of, replies_of}
 use Rattle.dds_net.specs.Net.{Net, Node, Sizes, net, sizes_of}
 use Rattle.dds_outcomes.proofs.PendingRows.{AllPending, AsksFor, turn-all}
+use Rattle.dds_outcomes.proofs.Points.{kept-all}
 use Rattle.dds_script.specs.Opening.{OpeningOf}
 use Rattle.dds_states.specs.declared.turn.Point.{Point}
 use Rattle.dds_states.specs.declared.turn.Point.TheVariants as point
 use Rattle.dds_calls.proofs.Asked.{AreAsked, IsUsed, MadeOf, NodeIs, OtherCall, PendingWas, WasAsked, asked-later, get-end, letters-weaker, node-weaker}
-use Rattle.dds_calls.proofs.PointRows.{PointHas, points-have}
+use Rattle.dds_outcomes.proofs.PointRows.{PointHas, turn-points}
 use Rattle.dds_calls.proofs.Requests.{LetterIs, LettersAre, OfCall, input-says, library-says}
 use Rattle.dds_calls.proofs.Callers.{all-used, opened, the_call}
 
@@ -45,16 +45,6 @@ use Rattle.dds_calls.proofs.Callers.{all-used, opened, the_call}
 -- a point at a place, of such a call
 abbrev PointAt : OfCall → ℕ → Made → Type 0
 PointAt P place m = (m.place ≡ place) × P m.entry.caller m.entry.call m.entry.op
-
-one-kept : (P : Made → Type 0) (c : Bool) (m : Made) → P m → AllByRecursion P (if c then [] else m ∷ [])
-one-kept P true m h = tt
-one-kept P false m h = (h, tt)
-
-pub kept-all : (P : Made → Type 0) (made ms : List Made) → AllByRecursion P ms → AllByRecursion P (all_kept made ms)
-kept-all P made [] h = tt
-kept-all P made (m ∷ ms) h =
-    all-append P (kept made m) (all_kept (made ++ kept made m) ms) (one-kept P (not (is_get m.entry.op) && is_applied made m.txn) m h.0)
-    (kept-all P (made ++ kept made m) ms h.1)
 
 read-at : (P : OfCall) (place : ℕ) (txn : Txn) (value : Option (List ℕ)) (l : Letter) → LetterIs P l
     → AllByRecursion (PointAt P place) (read_by place txn value l)
@@ -100,7 +90,7 @@ event-points : (P : OfCall) (z : Sizes) (cs : List Caller) (place : ℕ) (n : Ne
 event-points P z cs place n (brick_takes at from l s) f g ls =
     let own : AllPending (PendingWas P) s = subst (NodeIs P at) f.here (g at) in
     points-at P place l (live_brick_turn s from l).out.points (first-all (LetterIs P) z n at from l f.letter (ls from at))
-    (points-have (PendingWas P) s from l own)
+    (turn-points (PendingWas P) s from l own)
 event-points P z cs place n nothing f g ls = tt
 event-points P z cs place n (unheard at from l) f g ls = tt
 event-points P z cs place n (unasked at caller call o) f g ls = tt

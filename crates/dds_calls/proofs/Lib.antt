@@ -1,5 +1,4 @@
 pub mod Requests
-pub mod PointRows
 pub mod Asked
 pub mod Callers
 pub mod Asking

@@ -39,6 +39,7 @@ use Rattle.dds_net.specs.Event.{Event, nothing, unheard, unasked, brick_takes, b
 use Rattle.dds_net.specs.Event.{Fits, History, history_of, points_of, replies_of}
 use Rattle.dds_net.specs.Net.{Net, Sizes, sizes_of}
 use Rattle.dds_outcomes.proofs.Entries.{ArePending, NodeHas, PendingIs, pending-kept}
+use Rattle.dds_outcomes.proofs.Points.{kept-all}
 use Rattle.dds_script.specs.Opening.{IsOpening, OpeningOf}
 use Rattle.dds_states.specs.Turn.{read_of}
 use Rattle.dds_states.specs.declared.brick_state.BrickState.{BrickState}
@@ -49,9 +50,8 @@ use Rattle.dds_states.specs.declared.turn.Point.TheVariants as point
 use Rattle.dds_states.specs.declared.turn.Replied.{Replied}
 use Rattle.dds_states.specs.declared.turn.Replied.TheVariants as replied
 use Rattle.dds_world.specs.Stands.{is_result}
-use Rattle.dds_calls.proofs.Asking.{kept-all}
 use Rattle.dds_calls.proofs.Locked.{listed-too, new-pending}
-use Rattle.dds_calls.proofs.PointRows.{PointHas, points-have}
+use Rattle.dds_outcomes.proofs.PointRows.{PointHas, turn-points}
 use Rattle.dds_calls.proofs.Reasons.{begins-again}
 use Rattle.dds_calls.proofs.Treats.{Answers, Differ, library-treats}
 use Rattle.dds_calls.proofs.Treats as treats
@@ -197,7 +197,7 @@ event-points : (z : Sizes) (h : History) (n : Net) (e : Event) (b : Book) (place
 event-points z h n (brick_takes at from l s) b place f g =
     points-for b place from at l (live_brick_turn s from l).out.points
     ((subst (AllByRecursion (LetterListed b from at)) f.letter.first (g.0.1.letters from at)).0) (turn-reads s from l)
-    (points-have (PendingIs b) s from l (subst (NodeHas b at) f.here (g.1 at)))
+    (turn-points (PendingIs b) s from l (subst (NodeHas b at) f.here (g.1 at)))
 event-points z h n nothing b place f g = tt
 event-points z h n (unheard at from l) b place f g = tt
 event-points z h n (unasked at caller call o) b place f g = tt

@@ -2,8 +2,7 @@ use Rattle.std.proofs.Common.{◌≡◌, ℕ, ◌+◌, ◌<◌, ◌++◌, true, 
 use Rattle.std.specs.List.{AllByRecursion}
 use Rattle.std.specs.Prelude.{slice_get}
 use Rattle.dds_attempts.proofs.Callers.{callers-go}
-use Rattle.dds_attempts.proofs.Held.{all-kept-are}
-use Rattle.dds_attempts.proofs.PointRows.{turn-points}
+use Rattle.dds_outcomes.proofs.PointRows.{turn-points}
 use Rattle.dds_attempts.proofs.Runs.{Stands}
 use Rattle.dds_base.specs.Number.{Txn}
 use Rattle.dds_base.specs.declared.number.CallNo.{CallNo}
@@ -32,6 +31,7 @@ use Rattle.dds_once.proofs.Points.{HasEntry, IsMade, has-later, made-have}
 use Rattle.dds_once.proofs.Requests.{asked-says, turn-says}
 use Rattle.dds_once.proofs.Used.{IsNew, asked-new, free-unused, may-free, used-later}
 use Rattle.dds_outcomes.proofs.Entries.{NodeHas, PendingIs}
+use Rattle.dds_outcomes.proofs.Points.{kept-all}
 use Rattle.dds_talk.proofs.Changes.{put-here}
 use Rattle.dds_talk.specs.Books as talk
 
@@ -127,7 +127,7 @@ points-behind h other a past made = tt
 
 made-then : (h : History) (e : Event) (P : Made → Type 0) → AllByRecursion P h.made → AllByRecursion P (points_of h.steps e)
     → AllByRecursion P (goes h e).made
-made-then h e P g k = all-append P h.made (all_kept h.made (points_of h.steps e)) g (all-kept-are P h.made (points_of h.steps e) k)
+made-then h e P g k = all-append P h.made (all_kept h.made (points_of h.steps e)) g (kept-all P h.made (points_of h.steps e) k)
 
 abbrev pub AreOnceOver : (z : Sizes) → (h : History) → Net → Book × talk.Books → Unit {0} → Type 0
 AreOnceOver z h n b u = AreOnce h n b.0

@@ -2,7 +2,7 @@ use Rattle.std.proofs.Common.{◌≡◌, ℕ, true, false, Option, Some, None, L
 use Rattle.std.specs.List.{AllByRecursion}
 use Rattle.std.specs.Prelude.{is_some, slice_get}
 use Rattle.dds_attempts.proofs.Found.{call-at}
-use Rattle.dds_attempts.proofs.PointRows.{PointHas, turn-points}
+use Rattle.dds_outcomes.proofs.PointRows.{PointHas, turn-points}
 use Rattle.dds_attempts.proofs.Runs.{Stands}
 use Rattle.dds_attempts.proofs.Views.{held-open}
 use Rattle.dds_base.specs.Number.{Txn}

@@ -1,6 +1,6 @@
 use Rattle.std.proofs.Common.{◌≡◌, ℕ, Option, Some, None, List, [], ◌∷◌, refl}
 use Rattle.std.specs.List.{AllByRecursion}
-use Rattle.dds_attempts.proofs.PointRows.{PointHas}
+use Rattle.dds_outcomes.proofs.PointRows.{PointHas}
 use Rattle.dds_base.specs.Number.{Txn}
 use Rattle.dds_base.specs.declared.op.Op.TheVariants as op
 use Rattle.dds_books.specs.Books.{Book, Entry, IsWithin, LetterListed}

@@ -3,7 +3,6 @@ use Rattle.std.proofs.lemmas.Bool.{both_ways}
 use Rattle.std.specs.List.{AllByRecursion}
 use Rattle.std.specs.Prelude.{slice_get}
 use Rattle.dds_attempts.proofs.Claim.{AreCommitting, AreNewest, Commits, IsNewest, PointIs}
-use Rattle.dds_attempts.proofs.Held.{all-kept-are}
 use Rattle.dds_attempts.proofs.Runs.{Stands}
 use Rattle.dds_attempts.proofs.Library.{txn-is}
 use Rattle.dds_base.specs.Op.{is_get}
@@ -32,6 +31,7 @@ use Rattle.dds_once.proofs.Grown.{entry-used}
 use Rattle.dds_once.proofs.Opens.{IsOpenPoint, open-shut, points-open}
 use Rattle.dds_once.proofs.Shut.{IsShut, ReplySays, ToldSays, replies-shut, says-map, shut-later, told-says}
 use Rattle.dds_once.proofs.Used.{IsUsed, free-unused, may-free, opens-used}
+use Rattle.dds_outcomes.proofs.Points.{kept-all}
 use Rattle.dds_states.specs.declared.library_state.LibraryState.{LibraryState}
 use Rattle.dds_states.specs.declared.library_state.OpenCall.{OpenCall}
 use Rattle.dds_states.specs.declared.turn.Replied.{Replied}
@@ -143,7 +143,7 @@ module _ (z : Sizes) (few : z.bricks ≤ 64) (some : z.libraries ≤ 16) (h : Hi
   none-later : (e : Event) (i : ℕ) (call : CallNo) → Fits z h.callers n e → IsShut h.callers i call → NoneOf h.made i call → NoneOf (goes h e).made i call
   none-later e i call f shut g =
       all-append (IsNotOf i call) h.made (all_kept h.made (points_of h.steps e)) g
-      (all-kept-are (IsNotOf i call) h.made (points_of h.steps e)
+      (kept-all (IsNotOf i call) h.made (points_of h.steps e)
       (all-map (IsOpenPoint z few some h n b built k) (IsNotOf i call) (points_of h.steps e)
       (λ m p update x y. open-shut h.callers m.entry.caller i m.entry.call call (p update) shut x y) (points-open z few some h n b built k e f)))
 

@@ -17,4 +17,5 @@ pub mod Outs
 pub mod Whole
 pub mod Runs
 pub mod PendingRows
+pub mod PointRows
 pub mod Entries

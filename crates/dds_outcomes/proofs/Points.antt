@@ -42,11 +42,11 @@ one-kept : (P : Made → Type 0) (c : Bool) (m : Made) → P m → AllByRecursio
 one-kept P true m h = tt
 one-kept P false m h = (h, tt)
 
-all-kept : (P : Made → Type 0) (made ms : List Made) → AllByRecursion P ms → AllByRecursion P (all_kept made ms)
-all-kept P made [] h = tt
-all-kept P made (m ∷ ms) h =
+pub kept-all : (P : Made → Type 0) (made ms : List Made) → AllByRecursion P ms → AllByRecursion P (all_kept made ms)
+kept-all P made [] h = tt
+kept-all P made (m ∷ ms) h =
     all-append P (kept made m) (all_kept (made ++ kept made m) ms) (one-kept P (not (is_get m.entry.op) && is_applied made m.txn) m h.0)
-    (all-kept P (made ++ kept made m) ms h.1)
+    (kept-all P (made ++ kept made m) ms h.1)
 
 -- a brick's points
 reads-done : (b : Books) (place : ℕ) (txn : Txn) (value : Option (List ℕ)) (l : Letter) → AllByRecursion (IsDone b) (read_by place txn value l)
@@ -85,7 +85,7 @@ points-done o journal b (grown j was x e c d k same is next past stays h) =
     subst (AllByRecursion (IsDone b)) (sym (ap (λ (g : History). g.made) past))
     (all-append (IsDone b) t.made (all_kept t.made (points_of t.steps e))
     (all-map (IsDone c) (IsDone b) t.made (λ m f i. grows.decided m.txn (f i)) (points-done o was c k))
-    (all-kept (IsDone b) t.made (points_of t.steps e)
+    (kept-all (IsDone b) t.made (points_of t.steps e)
     (subst (λ (y : Books). AllByRecursion (IsDone y) (points_of t.steps e)) (sym is) (event-done o was x e c t.steps (kept-holds o was c k) next))))
 
 pub point-booked : (o : OpeningOf) (journal : List Step) (b : Books) (t : Txn) (list : List ℕ) → Kept o journal b → DecidedByPoint o journal t list
