@@ -60,7 +60,7 @@ later-known o journal at h run g =
     subst (λ (u : _). Since g.book (net z u.world)) (run-split (start o) journal at) r.is
 
 -- each leaf of a world is known
-of-order : (P : Leaf → Type 0) (x y : Option Leaf) (leaf : Leaf) → Each P x × Each P y → (x ≡ Some leaf) ⊎ (y ≡ Some leaf) → P leaf
+pub of-order : (P : Leaf → Type 0) (x y : Option Leaf) (leaf : Leaf) → Each P x × Each P y → (x ≡ Some leaf) ⊎ (y ≡ Some leaf) → P leaf
 of-order P x y leaf h (inl e) = each-is P x leaf e h.0
 of-order P x y leaf h (inr e) = each-is P y leaf e h.1
 

@@ -151,7 +151,7 @@ with-order : (s : BrickState) (test : OpenOrder → Bool) (row : BrickState → 
 with-order s test row None e k f = same _
 with-order s test row (Some o) e k f = record { way = in-hand s o _ e (f (record s { order = None }) o refl (k o refl)).way }
 
-test-at : (number : ℕ) (test : OpenOrder → Bool) (q : Option OpenOrder) (o : OpenOrder) → order.is_at number test q ≡ true → q ≡ Some o → test o ≡ true
+pub test-at : (number : ℕ) (test : OpenOrder → Bool) (q : Option OpenOrder) (o : OpenOrder) → order.is_at number test q ≡ true → q ≡ Some o → test o ≡ true
 test-at number test None o h e = cc
 test-at number test (Some x) o h e =
     let is : x ≡ o = cc in subst (λ (y : OpenOrder). test y ≡ true) is (and_parts (x.number == number) (test x) h).1

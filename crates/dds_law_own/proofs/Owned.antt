@@ -121,7 +121,7 @@ made-of me s o leaf Split e n k name h =
     (ap low_half name, has-kept (takes_part s o) (live leaf.list (has_node s.known)) me itself lives)
 
 -- leases
-abbrev Unmet : Name → List Lease → Type 0
+abbrev pub Unmet : Name → List Lease → Type 0
 Unmet name ls = AllByRecursion (λ (l : Lease). overlaps l.name name ≡ false) ls
 
 none-if : (c : Bool) (l : Lease) (ls : List Lease) (name : Name) → overlaps l.name name ≡ c → (if c then Some l.holder else lease.leased ls name) ≡ None

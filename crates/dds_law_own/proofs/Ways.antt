@@ -67,7 +67,7 @@ free-lease s name stamp e =
       unjoined = when-none _ refusal.Lease a.0;
     }
 
-none-denied : (r : Option Refusal) → as_denial r ≡ None → r ≡ None
+pub none-denied : (r : Option Refusal) → as_denial r ≡ None → r ≡ None
 none-denied None e = refl
 none-denied (Some why) e = cc
 

@@ -9,6 +9,7 @@ use Rattle.dds_groups.specs.Leaves.{live}
 use Rattle.dds_base.specs.NodeSet.{has_node}
 use Rattle.dds_letters.specs.declared.letter.Letter.{Letter}
 use Rattle.dds_order_rows.specs.OwnOrder as order
+use Rattle.dds_orders.proofs.Counting.{copying-is, not-none}
 use Rattle.dds_states.specs.Turn.{unknown, unknown_others, without}
 use Rattle.dds_states.specs.declared.brick_state.OpenOrder.{OpenOrder}
 use Rattle.dds_states.specs.declared.brick_state.OrderPhase.{OrderPhase}
@@ -18,7 +19,7 @@ use Rattle.dds_orders.proofs.Deeds.{Deed, MayBegin, Path, Seat, asks_more, close
 use Rattle.dds_orders.proofs.Deeds.{serves, split_asked, splits, step, takes, widened}
 use Rattle.dds_orders.proofs.Numbers.{has-without, none-append, none-others}
 use Rattle.dds_order_talk.proofs.Members.{Asks, Kept, Sent, append-parts, closed-later, closed-ok, has-passes, in-first, in-second}
-use Rattle.dds_order_talk.proofs.Members.{in-unknown, in-without, it-has, ne-one, new-later, not-has, not-none, of-it, on-ok, one-only, order-later}
+use Rattle.dds_order_talk.proofs.Members.{in-unknown, in-without, it-has, ne-one, new-later, not-has, of-it, on-ok, one-only, order-later}
 use Rattle.dds_order_talk.proofs.Members.{other-sent, over-it, same-later, same-number, same-ok, sent-each, sent-later, sent-one}
 
 -- Each deed of a brick keeps whom its open order has to do with.
@@ -35,9 +36,6 @@ copying-not-made n made e = cc
 
 made-not-copying : (made : Leaf) (n : ℕ) → Installing made ≡ Copying n → ⊥
 made-not-copying made n e = cc
-
-copying-is : (a b : ℕ) → Copying a ≡ Copying b → a ≡ b
-copying-is a b e = cc
 
 pub phase-made : (p : OrderPhase) (made : Leaf) → order.is_leasing p ≡ true → p ≡ Installing made → ⊥
 phase-made p made h e = let no : true ≡ false = sym h ∙ ap order.is_leasing e in cc

@@ -1,6 +1,6 @@
 use Rattle.std.proofs.Common.{◌≡◌, ℕ, ◌+◌, ◌-◌, ◌<◌, ◌≤◌, ◌==◌, Bool, true, false, Some, None, List, [], ◌∷◌, refl, sym, ap, ◌∙◌}
 use Rattle.std.proofs.Common.{subst, arith}
-use Rattle.std.proofs.lemmas.Bool.{eq-eqb, eqb-true}
+use Rattle.std.proofs.lemmas.Bool.{eqb-true}
 use Rattle.std.proofs.lemmas.Bool.Decides.{nat_tests}
 use Rattle.std.specs.List.{AllByRecursion}
 use Rattle.std.specs.Prelude.{nat_lt, if◌then◌else◌}
@@ -20,12 +20,12 @@ use Rattle.dds_letters.specs.declared.letter.Letter.{Letter}
 use Rattle.dds_letters.specs.declared.letter.Letter.TheVariants as letter
 use Rattle.dds_net.proofs.Carried.{AllCarried, Lands, News, letters-moved, nodes-moved}
 use Rattle.dds_net.proofs.Letters.{first-all}
-use Rattle.dds_net.proofs.Places.{one-place}
 use Rattle.dds_net.proofs.Puts.{if-keeps}
 use Rattle.dds_net.proofs.Rungs.{IsKeptOver}
 use Rattle.dds_net.specs.Event.{Event, nothing, unheard, unasked, brick_takes, brick_told, brick_stops, library_takes, library_asked, library_stops}
 use Rattle.dds_net.specs.Event.{Fits, asked_turn, moved}
 use Rattle.dds_net.specs.Net.{Net, Node, nowhere, a_brick, a_library, Sizes, is_in, lands, place_in, put}
+use Rattle.dds_orders.proofs.Numbered.{below-if, lands-one, put-at}
 use Rattle.dds_states.specs.Turn.{BrickTurn}
 use Rattle.dds_states.specs.declared.brick_state.BrickState.{BrickState}
 use Rattle.dds_orders.proofs.Deeds.{AreOthers, Seat, is_of_orders, seat}
@@ -79,9 +79,6 @@ letters-later n at y f g a b =
       answers = λ number e. put-stays n.node at y f b number a (h.answers number e);
     }) (g a b)
 
-put-at : (nodes : ℕ → Node) (at : ℕ) (y : Node) → put at y nodes at ≡ y
-put-at nodes at y = ap (λ c. if c then y else nodes at) (eq-eqb at at refl)
-
 -- a letter comes to the brick that it is for
 brick-if : (bricks to b : ℕ) (c : Bool) → nat_lt to 64 ≡ c → b < bricks → (if c then to else bricks + (to - 64)) ≡ b → to ≡ b
 brick-if bricks to b true t lt e = e
@@ -90,17 +87,10 @@ brick-if bricks to b false t lt e = absurd (omega (arith, lt, e))
 low-place : (bricks n : ℕ) → n < 64 → place_in bricks n ≡ n
 low-place bricks n low = let t : nat_lt n 64 ≡ true = grind (arith, nat_tests, low) in rw t refl
 
-below-if : (z : Sizes) (n : ℕ) (c : Bool) → nat_lt n 64 ≡ c → n < 64 → (if c then nat_lt n z.bricks else nat_lt (n - 64) z.libraries) ≡ true → n < z.bricks
-below-if z n true t low h = grind (arith, nat_tests, h)
-below-if z n false t low h = grind (arith, nat_tests, t, low)
-
 pub lands-low : (z : Sizes) (to b : ℕ) → b < 64 → is_in z b ≡ true → lands z to b ≡ true → to ≡ b
 lands-low z to b low inside h =
     brick-if z.bricks to b (nat_lt to 64) refl (below-if z b (nat_lt b 64) refl low inside)
     (eqb-true (place_in z.bricks to) (place_in z.bricks b) h ∙ low-place z.bricks b low)
-
-lands-one : (z : Sizes) (to b : ℕ) → z.bricks ≤ 64 → is_in z to ≡ true → is_in z b ≡ true → lands z to b ≡ true → to ≡ b
-lands-one z to b few h k e = one-place z to b few h k (eqb-true (place_in z.bricks to) (place_in z.bricks b) e)
 
 -- what a brick sends of itself
 own-news : (z : Sizes) (nodes : ℕ → Node) (at b : ℕ) (s : BrickState) (p : NodeNo × Letter) → is_in z b ≡ true → Sent (seat s) p

@@ -9,6 +9,8 @@ use Rattle.dds_base.specs.declared.number.NodeNo.{NodeNo}
 use Rattle.dds_core.proofs.Lists.{all-map}
 use Rattle.dds_letters.specs.declared.letter.Letter.{Letter}
 use Rattle.dds_order_rows.specs.OwnOrder as order
+use Rattle.dds_orders.proofs.Asked.{or-left, or-right}
+use Rattle.dds_orders.proofs.Counting.{not-none}
 use Rattle.dds_states.specs.Turn.{to_each, unknown, unknown_others, without}
 use Rattle.dds_states.specs.declared.brick_state.OpenOrder.{OpenOrder}
 use Rattle.dds_states.specs.declared.brick_state.OrderPhase.TheVariants.{Copying, Installing}
@@ -66,14 +68,6 @@ pub record Kept (me : ℕ) (x : Seat) (ls : List (NodeNo × Letter)) (y : Seat) 
 pub same-number : (x n : ℕ) → (x == n) ≡ true → x ≡ n
 same-number x n h = eqb-true x n h
 
-or-left : (a b : Bool) → a ≡ true → (a || b) ≡ true
-or-left true b e = refl
-or-left false b e = cc
-
-or-right : (a b : Bool) → b ≡ true → (a || b) ≡ true
-or-right true b e = refl
-or-right false b e = e
-
 or-parts : (a b : Bool) → (a || b) ≡ true → (a ≡ true) ⊎ (b ≡ true)
 or-parts true b h = inl refl
 or-parts false b h = inr h
@@ -123,10 +117,6 @@ not-has xs n f = elim (cases_Bool (has xs n)) [ inl e ↦ absurd (f e) | inr e �
 
 pub in-unknown : (xs : List ℕ) (me : ℕ) (x : Seat) (n : ℕ) → has (unknown_others xs me x.own.known) n ≡ true → n ≡ me → ⊥
 in-unknown xs me x n h = (in-without (unknown xs x.own.known) me n h).0
-
--- the same order goes on
-pub not-none : {X : Type 0} (x : X) → None ≡ Some x → ⊥
-not-none x e = cc
 
 pub order-later : (x y : Seat) (o p : OpenOrder) → x.own.order ≡ Some o → y.own.order ≡ Some p → x.orders ≡ y.orders → p.number ≡ o.number
     → ((n : ℕ) → has o.asked n ≡ true → has p.asked n ≡ true) → Later x y

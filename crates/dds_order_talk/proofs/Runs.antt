@@ -1,6 +1,5 @@
-use Rattle.std.proofs.Common.{◌≡◌, ℕ, ◌<◌, true, List, Some, refl, sym, ◌∙◌, subst}
+use Rattle.std.proofs.Common.{◌≡◌, ℕ, ◌<◌, true, List, Some, refl, sym, subst}
 use Rattle.std.specs.List.{AllByRecursion}
-use Rattle.std.specs.Prelude.{nat_lt}
 use Rattle.dds_cluster.proofs.Sizes.{sized-start}
 use Rattle.dds_cluster.specs.Trace.{is_run, start}
 use Rattle.dds_cluster.specs.World.{World, new_brick}
@@ -8,12 +7,13 @@ use Rattle.dds_cluster.specs.declared.step.Step.{Step}
 use Rattle.dds_law_notice.proofs.Keeps.{AreLinked, links-kept}
 use Rattle.dds_law_notice.proofs.Last.{start-links}
 use Rattle.dds_letters.specs.declared.letter.Letter.{Letter}
-use Rattle.dds_net.proofs.Nodes.{brick-low, brick-node}
+use Rattle.dds_net.proofs.Nodes.{brick-node}
 use Rattle.dds_net.proofs.Opening.{IsNew, new_a_brick, new_a_library, no_node, start-channel, start-node}
 use Rattle.dds_net.proofs.Runs.{run-keeps, sized-run}
 use Rattle.dds_net.proofs.Rungs.{Both, both_books, kept-over}
-use Rattle.dds_net.proofs.Ways.{NodeIs, is_brick, is_library, is_nowhere, node-is, travels}
-use Rattle.dds_net.specs.Net.{Node, nowhere, a_brick, a_library, net, node_at, sizes_of}
+use Rattle.dds_net.proofs.Ways.{node-is, travels}
+use Rattle.dds_net.specs.Net.{Node, a_brick, net, node_at, sizes_of}
+use Rattle.dds_orders.proofs.Runs.{low-if}
 use Rattle.dds_script.specs.Opening.{IsOpening, OpeningOf}
 use Rattle.dds_states.specs.declared.brick_state.BrickState.{BrickState}
 use Rattle.dds_states.specs.declared.brick_state.OpenOrder.{OpenOrder}
@@ -30,11 +30,6 @@ new-ok o k x (no_node e) low = subst (NodeOk k) (sym e) tt
 new-ok o k x (new_a_brick e) low =
     subst (NodeOk k) (sym e) (record { low = low (new_brick o.leaves k) e; is = record { number = refl; order = λ p f. cc } })
 new-ok o k x (new_a_library high e) low = subst (NodeOk k) (sym e) tt
-
-low-if : (w : World) (k : ℕ) (s : BrickState) → NodeIs w k → node_at w k ≡ a_brick s → k < 64
-low-if w k s (is_nowhere e) f = let no : nowhere ≡ a_brick s = sym e ∙ f in cc
-low-if w k s (is_brick q b e) f = brick-low w k q (nat_lt k 64) refl b
-low-if w k s (is_library q b e) f = let no : a_library q ≡ a_brick s = sym e ∙ f in cc
 
 start-within : (o : OpeningOf) → AreWithin (net (sizes_of o) (start o).world)
 start-within o =

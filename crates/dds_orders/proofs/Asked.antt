@@ -100,11 +100,11 @@ none-left : (ns : List ℕ) (n : ℕ) → is_none_left ns ≡ true → has ns n 
 none-left [] n e h = let no : false ≡ true = h in cc
 none-left (m ∷ ns) n e h = cc
 
-or-left : (a b : Bool) → a ≡ true → (a || b) ≡ true
+pub or-left : (a b : Bool) → a ≡ true → (a || b) ≡ true
 or-left true b e = refl
 or-left false b e = cc
 
-or-right : (a b : Bool) → b ≡ true → (a || b) ≡ true
+pub or-right : (a b : Bool) → b ≡ true → (a || b) ≡ true
 or-right true b e = refl
 or-right false b e = e
 

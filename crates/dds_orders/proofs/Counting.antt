@@ -43,7 +43,7 @@ new-later x y p e first more number l c =
           absurd (omega (arith, lt, same));
     }
 
-not-none : {X : Type 0} (x : X) → None ≡ Some x → ⊥
+pub not-none : {X : Type 0} (x : X) → None ≡ Some x → ⊥
 not-none x e = cc
 
 leasing-only : (n : ℕ) → Leasing ≡ Copying n → ⊥
@@ -55,7 +55,7 @@ installing-only made n e = cc
 not-before : (p : OrderPhase) (made : Leaf) → order.is_installing p ≡ false → p ≡ Installing made → ⊥
 not-before p made e f = let no : true ≡ false = sym (ap order.is_installing f) ∙ e in cc
 
-copying-is : (a b : ℕ) → Copying a ≡ Copying b → a ≡ b
+pub copying-is : (a b : ℕ) → Copying a ≡ Copying b → a ≡ b
 copying-is a b e = cc
 
 -- the order that is open, in a letter of it

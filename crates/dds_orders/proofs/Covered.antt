@@ -103,7 +103,7 @@ abbrev pub Covering : Own → Type 0
 Covering x = AllByRecursion (Covers x.leaves) x.pending
 
 -- a leaf without pending keys is replaced
-abbrev Unlocked : Name → Pending → Type 0
+abbrev pub Unlocked : Name → Pending → Type 0
 Unlocked name p = covers name (the_key p.op) ≡ false
 
 replaced-covers : (me : ℕ) (x : Own) (mine leaf : Leaf) → IsBoth me x → own_leaf x.leaves leaf.name ≡ Some mine
@@ -178,7 +178,7 @@ given-is P (l ∷ ls) name h all k = elim (cases_Bool (lease.is_lease name h l))
   | inr e ↦ given-is P ls name h all.1 (sym (ap (λ c. c || lease.is_given ls name h) e) ∙ k)
 ]
 
-false-of : (c : Bool) → (c ≡ true → ⊥) → c ≡ false
+pub false-of : (c : Bool) → (c ≡ true → ⊥) → c ≡ false
 false-of true f = absurd (f refl)
 false-of false f = refl
 

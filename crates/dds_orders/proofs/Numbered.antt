@@ -78,7 +78,7 @@ letters-later n at y f g a b =
       said = λ number e. let k = h.said number e in (k.0, put-stays n.node at y f b number l k.1);
     }) (g a b)
 
-put-at : (nodes : ℕ → Node) (at : ℕ) (y : Node) → put at y nodes at ≡ y
+pub put-at : (nodes : ℕ → Node) (at : ℕ) (y : Node) → put at y nodes at ≡ y
 put-at nodes at y = ap (λ c. if c then y else nodes at) (eq-eqb at at refl)
 
 put-other : (nodes : ℕ → Node) (at k : ℕ) (y : Node) → (k ≡ at → ⊥) → put at y nodes k ≡ nodes k
@@ -92,7 +92,7 @@ self-if bricks to at false t lt e = absurd (omega (arith, lt, e))
 low-place : (b n : ℕ) → n < 64 → place_in b n ≡ n
 low-place b n low = let t : nat_lt n 64 ≡ true = grind (arith, nat_tests, low) in rw t refl
 
-below-if : (z : Sizes) (n : ℕ) (c : Bool) → nat_lt n 64 ≡ c → n < 64 → (if c then nat_lt n z.bricks else nat_lt (n - 64) z.libraries) ≡ true → n < z.bricks
+pub below-if : (z : Sizes) (n : ℕ) (c : Bool) → nat_lt n 64 ≡ c → n < 64 → (if c then nat_lt n z.bricks else nat_lt (n - 64) z.libraries) ≡ true → n < z.bricks
 below-if z n true t low h = grind (arith, nat_tests, h)
 below-if z n false t low h = grind (arith, nat_tests, t, low)
 
@@ -101,7 +101,7 @@ lands-self z to at low inside h =
     self-if z.bricks to at (nat_lt to 64) refl (below-if z at (nat_lt at 64) refl low inside)
     (eqb-true (place_in z.bricks to) (place_in z.bricks at) h ∙ low-place z.bricks at low)
 
-lands-one : (z : Sizes) (to b : ℕ) → z.bricks ≤ 64 → is_in z to ≡ true → is_in z b ≡ true → lands z to b ≡ true → to ≡ b
+pub lands-one : (z : Sizes) (to b : ℕ) → z.bricks ≤ 64 → is_in z to ≡ true → is_in z b ≡ true → lands z to b ≡ true → to ≡ b
 lands-one z to b few h k e = one-place z to b few h k (eqb-true (place_in z.bricks to) (place_in z.bricks b) e)
 
 -- what a brick sends of itself
@@ -162,19 +162,19 @@ other-ok nodes a b l h =
       said = λ number e. let no : None ≡ Some number = sym k.1 ∙ e in cc;
     }
 
-other-news : (z : Sizes) (nodes : ℕ → Node) (at : ℕ) (ls : List (NodeNo × Letter)) → AreOthers ls → News (LetterOk nodes) z at ls
+pub other-news : (z : Sizes) (nodes : ℕ → Node) (at : ℕ) (ls : List (NodeNo × Letter)) → AreOthers ls → News (LetterOk nodes) z at ls
 other-news z nodes at ls h b inside =
     all-map _ (Lands (LetterOk nodes) z at b) ls (λ (p : NodeNo × Letter) k there. other-ok nodes at b p.1 k) h
 
 -- a live brick takes a letter
-same-stopped : (s : BrickState) (from : NodeNo) (l : Letter) → (heard s from l).stopped ≡ s.stopped
+pub same-stopped : (s : BrickState) (from : NodeNo) (l : Letter) → (heard s from l).stopped ≡ s.stopped
 same-stopped s from letter.Notice = refl
 same-stopped s from other = refl
 
-takes-stopped : (s : BrickState) (from : NodeNo) (l : Letter) → (live_brick_turn s from l).state.stopped ≡ s.stopped
+pub takes-stopped : (s : BrickState) (from : NodeNo) (l : Letter) → (live_brick_turn s from l).state.stopped ≡ s.stopped
 takes-stopped s from l = ap (λ (w : Who). w.stopped) (letter-tells s from l).same ∙ same-stopped s from l
 
-told-stopped : (s : BrickState) (o : Order) → (brick_input s o).state.stopped ≡ s.stopped
+pub told-stopped : (s : BrickState) (o : Order) → (brick_input s o).state.stopped ≡ s.stopped
 told-stopped s o = ap (λ (w : Who). w.stopped) (order-tells {L = λ to m. ⊥} s o).same
 
 -- what a turn leaves of the node, of letters on their way, and sends
@@ -217,7 +217,7 @@ told-ok z n at o s h =
 node-stays : (x y z : Node) → x ≡ y → Stays y z → Stays x z
 node-stays x y z e f number l c = f number l (subst (λ q. Counts q number l) e c)
 
-notice-ok : (nodes : ℕ → Node) (a b : ℕ) → LetterOk nodes a b letter.Notice
+pub notice-ok : (nodes : ℕ → Node) (a b : ℕ) → LetterOk nodes a b letter.Notice
 notice-ok nodes a b = other-ok nodes a b letter.Notice refl
 
 pub counted-kept : (z : Sizes) (cs : List Caller) (n : Net) (e : Event) → z.bricks ≤ 64 → z.libraries ≤ 16 → AreLinked z n → Fits z cs n e → AreCounted n

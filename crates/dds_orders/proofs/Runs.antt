@@ -31,7 +31,7 @@ new-ok o k x (new_a_brick e) low =
     subst (NodeOk k) (sym e) (record { low = low (new_brick o.leaves k) e; is = record { number = refl; order = λ p f. cc } })
 new-ok o k x (new_a_library high e) low = subst (NodeOk k) (sym e) tt
 
-low-if : (w : World) (k : ℕ) (s : BrickState) → NodeIs w k → node_at w k ≡ a_brick s → k < 64
+pub low-if : (w : World) (k : ℕ) (s : BrickState) → NodeIs w k → node_at w k ≡ a_brick s → k < 64
 low-if w k s (is_nowhere e) f = let no : nowhere ≡ a_brick s = sym e ∙ f in cc
 low-if w k s (is_brick q b e) f = brick-low w k q (nat_lt k 64) refl b
 low-if w k s (is_library q b e) f = let no : a_library q ≡ a_brick s = sym e ∙ f in cc

@@ -188,7 +188,7 @@ copy_ask_row s from number name place =
 false-is : (c : Bool) → c ≡ false → c ≡ true → ⊥
 false-is c e f = let no : true ≡ false = sym f ∙ e in cc
 
-same-leaf : (q : Option Leaf) (a b : Leaf) → q ≡ Some a → q ≡ Some b → a ≡ b
+pub same-leaf : (q : Option Leaf) (a b : Leaf) → q ≡ Some a → q ≡ Some b → a ≡ b
 same-leaf q a b e f = let no : Some a ≡ Some b = sym e ∙ f in cc
 
 installing : (s : BrickState) (from : NodeNo) (number : ℕ) (leaf : Leaf) (mine : Option Leaf) → own_leaf s.leaves leaf.name ≡ mine

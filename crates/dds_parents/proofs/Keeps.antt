@@ -58,13 +58,13 @@ pub record AreListed (z : Sizes) (n : Net) : Type 0 where
   pub lists : AllList known.book (Gone n)
 
 -- who has stopped stays so
-stopped-still : (n : Net) (at : ℕ) (x : Node) → n.node at ≡ x → (view x).stopped ≡ false → Gone n at → ⊥
+pub stopped-still : (n : Net) (at : ℕ) (x : Node) → n.node at ≡ x → (view x).stopped ≡ false → Gone n at → ⊥
 stopped-still n at x here live gone = both_ways (view x).stopped live (ap (λ y. (view y).stopped) (sym here) ∙ gone)
 
-abbrev StillGone : Net → ℕ → Node → Type 0
+abbrev pub StillGone : Net → ℕ → Node → Type 0
 StillGone n k x = Gone n k → (view x).stopped ≡ true
 
-gone-owed : (z : Sizes) (cs : List Caller) (n : Net) (e : Event) → Fits z cs n e → Becomes (StillGone n) e
+pub gone-owed : (z : Sizes) (cs : List Caller) (n : Net) (e : Event) → Fits z cs n e → Becomes (StillGone n) e
 gone-owed z cs n nothing f = tt
 gone-owed z cs n (unheard at from l) f = tt
 gone-owed z cs n (unasked at caller call o) f = tt

@@ -62,10 +62,6 @@ leaf-stays : (m k : LeafMap) (q : Option OpenOrder) → ((o : OpenOrder) → q �
     → SplitsIn k q
 leaf-stays m k q f h o e j = let it = h o e j in record { leaf = it.leaf; fixed = it.fixed; there = f o e j ∙ it.there }
 
--- a lease stands on no name that another one overlaps
-abbrev Unmet : Name → List Lease → Type 0
-Unmet name ls = AllByRecursion (λ (l : Lease). overlaps l.name name ≡ false) ls
-
 leased-apart : (ls : List Lease) (x y : Name) (j : ℕ) → lease.leased ls y ≡ None → lease.is_given ls x j ≡ true → overlaps x y ≡ false
 leased-apart ls x y j e g =
     let it = given-is (λ (l : Lease). overlaps l.name y ≡ false) ls x j (none-leased ls y e) g in subst (λ n. overlaps n y ≡ false) it.1 it.2

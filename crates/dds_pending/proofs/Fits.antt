@@ -13,13 +13,14 @@ use Rattle.dds_base.specs.declared.name.TheConstants.{DEPTH}
 use Rattle.dds_base.specs.declared.number.NodeNo.{NodeNo}
 use Rattle.dds_base.specs.declared.pending.Pending.{Pending}
 use Rattle.dds_law_leaf.proofs.Book.{AreKnown, Body, Book}
-use Rattle.dds_law_notice.proofs.Views.{view}
 use Rattle.dds_law_own.proofs.Disjoint.{Disjoint}
 use Rattle.dds_letters.specs.declared.letter.Letter.{Letter}
 use Rattle.dds_letters.specs.declared.letter.Letter.TheVariants as letter
 use Rattle.dds_net.proofs.Carried.{AllCarried}
 use Rattle.dds_net.specs.Net.{Net, Node, nowhere, a_brick, a_library, Sizes}
 use Rattle.dds_orders.proofs.Stood.{AreStood}
+use Rattle.dds_orders.proofs.Turns.{same-leaf}
+use Rattle.dds_parents.proofs.Keeps.{Gone}
 use Rattle.dds_states.specs.Leaf.{leaf_for}
 use Rattle.dds_trie.proofs.Lookups.{within-more, within-none}
 use Rattle.dds_trie.specs.Trie.{LeafMap, leaf_within, name_at, or_else}
@@ -32,10 +33,6 @@ use Rattle.dds_trie.specs.Trie.{LeafMap, leaf_within, name_at, or_else}
 -- | member of the book's list is in the Prepare's list or has stopped      | leaf has the stamp         | but for those that the library knows as stopped    |
 -- | `pending`: each member of a brick's leaf over a pending key is in the  | claimed                    | Prepare; what changes leaves leaves those over a   |
 -- | transaction's list or has stopped                                      |                            | pending key                                        |
-
--- the node has stopped
-abbrev pub Gone : Net → ℕ → Type 0
-Gone n k = (view (n.node k)).stopped ≡ true
 
 -- each member of the first list is in the second one or has stopped
 abbrev pub ListsOrGone : (ℕ → Type 0) → List NodeNo → List NodeNo → Type 0
@@ -85,10 +82,6 @@ found-within m (suc n) key leaf h =
 
 pub found-at : (m : LeafMap) (key : ℕ) (leaf : Leaf) → leaf_for m key ≡ Some leaf → FoundAt m key leaf
 found-at m key leaf h = found-within m DEPTH key leaf h
-
--- leaves of disjoint names over one key are one
-same-leaf : (q : Option Leaf) (a b : Leaf) → q ≡ Some a → q ≡ Some b → a ≡ b
-same-leaf q a b e f = let no : Some a ≡ Some b = sym e ∙ f in cc
 
 pub one-over : (m : LeafMap) (key : ℕ) (p q : Name) (a b : Leaf) → Disjoint m → get m p ≡ Some a → get m q ≡ Some b → covers p key ≡ true
     → covers q key ≡ true → a ≡ b

@@ -1,5 +1,5 @@
-use Rattle.std.proofs.Common.{◌≡◌, ℕ, ◌≤◌, ◌==◌, inl, inr, Bool, true, false, not, List, refl, sym, ap, ◌∙◌, subst}
-use Rattle.std.proofs.lemmas.Bool.{and_parts, both_ways, eq-eqb}
+use Rattle.std.proofs.Common.{◌≡◌, ℕ, ◌≤◌, inl, inr, List, refl, sym, ap, ◌∙◌, subst}
+use Rattle.std.proofs.lemmas.Bool.{eq-eqb}
 use Rattle.std.specs.Prelude.{if◌then◌else◌}
 use Rattle.dds_base.specs.NodeSet.{has_node}
 use Rattle.dds_base.specs.declared.node_set.NodeSet.{NodeSet}
@@ -14,8 +14,7 @@ use Rattle.dds_core.specs.LibraryTurn.{live_library_turn}
 use Rattle.dds_law_leaf.proofs.Book.{Book, BrickOk, Grows, InLibrary, Known, LetterOk, NodeOk}
 use Rattle.dds_law_leaf.proofs.Keeps.{step-known}
 use Rattle.dds_law_notice.proofs.Keeps.{AreLinked}
-use Rattle.dds_law_notice.proofs.Link.{Link, lives, over, told}
-use Rattle.dds_law_notice.proofs.Views.{View, brick-does, knows, learns, library-takes, view}
+use Rattle.dds_law_notice.proofs.Views.{View, knows, learns, library-takes, view}
 use Rattle.dds_law_own.proofs.Changes.{own}
 use Rattle.dds_law_own.proofs.Keeps as owns
 use Rattle.dds_law_own.proofs.Parted.{IsBoth}
@@ -26,49 +25,19 @@ use Rattle.dds_net.proofs.Letters.{first-all}
 use Rattle.dds_net.proofs.Runs.{IsKept}
 use Rattle.dds_net.specs.Event.{Event, nothing, unheard, unasked, brick_takes, brick_told, brick_stops, library_takes, library_asked, library_stops}
 use Rattle.dds_net.specs.Event.{Fits, moved}
-use Rattle.dds_net.specs.Net.{Net, Node, nowhere, a_brick, a_library, Sizes, is_in, put}
+use Rattle.dds_net.specs.Net.{Net, Node, nowhere, a_brick, a_library, Sizes, put}
 use Rattle.dds_orders.proofs.Covered.{Covering}
 use Rattle.dds_orders.proofs.Standing.{Standing}
 use Rattle.dds_orders.proofs.Stood.{stood-kept}
+use Rattle.dds_parents.proofs.Keeps.{Gone, gone-later, known-gone}
 use Rattle.dds_states.specs.declared.brick_state.BrickState.{BrickState}
 use Rattle.dds_states.specs.declared.library_state.LibraryState.{LibraryState}
-use Rattle.dds_pending.proofs.Fits.{AreFitting, Gone, NodeFits, PrepareOk}
+use Rattle.dds_pending.proofs.Fits.{AreFitting, NodeFits, PrepareOk}
 use Rattle.dds_pending.proofs.Fits as fit
 use Rattle.dds_pending.proofs.Prepares.{AreOk, asked-ok, brick-ok, library-ok}
 use Rattle.dds_pending.proofs.Turns.{Before, fits-later, letter-fits, order-fits}
 
 -- Each event keeps the invariant, over the laws of notices, of leaves' stamps, of own leaves and of leases.
-
--- who has stopped stays so
-stopped-still : (n : Net) (at : ℕ) (x : Node) → n.node at ≡ x → (view x).stopped ≡ false → Gone n at → ⊥
-stopped-still n at x here live gone = both_ways (view x).stopped live (ap (λ y. (view y).stopped) (sym here) ∙ gone)
-
-abbrev StillGone : Net → ℕ → Node → Type 0
-StillGone n k x = Gone n k → (view x).stopped ≡ true
-
-gone-owed : (z : Sizes) (cs : List Caller) (n : Net) (e : Event) → Fits z cs n e → Becomes (StillGone n) e
-gone-owed z cs n nothing f = tt
-gone-owed z cs n (unheard at from l) f = tt
-gone-owed z cs n (unasked at caller call o) f = tt
-gone-owed z cs n (brick_takes at from l s) f = λ h. absurd (stopped-still n at (a_brick s) f.here f.live h)
-gone-owed z cs n (brick_told at o s) f =
-    λ h. ap (λ (v : View). v.stopped) (brick-does s o).after ∙ ap (λ x. (view x).stopped) (sym f.here) ∙ h
-gone-owed z cs n (brick_stops at s kept) f = λ h. refl
-gone-owed z cs n (library_takes at from l s) f = λ h. absurd (stopped-still n at (a_library s) f.here f.live h)
-gone-owed z cs n (library_asked at caller call o s) f = λ h. absurd (stopped-still n at (a_library s) f.here f.live h)
-gone-owed z cs n (library_stops at s kept) f = λ h. refl
-
-gone-later : (z : Sizes) (cs : List Caller) (n : Net) (e : Event) → Fits z cs n e → (k : ℕ) → Gone n k → Gone (moved z n e) k
-gone-later z cs n e f = nodes-moved (StillGone n) z n e (λ k h. h) (gone-owed z cs n e f)
-
--- and who is known has stopped
-over-is : {deaf stopped known : Bool} (c : List Letter) → Link deaf c stopped known → known ≡ true → stopped ≡ true
-over-is c (lives h) e = cc
-over-is c (told front is h) e = cc
-over-is c (over known is h) e = refl
-
-known-gone : (z : Sizes) (n : Net) (at k : ℕ) → AreLinked z n → is_in z at ≡ true → knows (view (n.node at)) k ≡ true → Gone n k
-known-gone z n at k links inside known = (and_parts (view (n.node k)).stopped (not (k == at)) (over-is _ (links k at inside) known)).0
 
 -- Prepares on their way
 prepare-later : (b c : Book) (gone later : ℕ → Type 0) (l : Letter) → Grows b c → ((k : ℕ) → gone k → later k) → PrepareOk b gone l → PrepareOk c later l

@@ -29,6 +29,7 @@ use Rattle.dds_law_leaf.proofs.Book.{Leafing, leafing}
 use Rattle.dds_law_leaf.proofs.Plain as plain
 use Rattle.dds_law_leaf.proofs.Turns.{Plain}
 use Rattle.dds_law_own.proofs.Changes.{MayInstall, MayTake, own}
+use Rattle.dds_law_own.proofs.OrderWays.{test-at}
 use Rattle.dds_law_own.proofs.Owned.{Orderly, made_name}
 use Rattle.dds_law_own.proofs.Ways.{may-take}
 use Rattle.dds_letters.specs.declared.letter.Letter.{Letter}
@@ -142,11 +143,6 @@ with-order : (me : ℕ) (s : BrickState) (test : OpenOrder → Bool) (row : Bric
     → s.order ≡ q → ((o : OpenOrder) → q ≡ Some o → test o ≡ true) → Owes s test row → Goes s (order.with_order s row q)
 with-order me s test row None h e k f = rests refl
 with-order me s test row (Some o) h e k f = ended s o (row (record s { order = None }) o) e (f o (k o refl) (named me o h))
-
-test-at : (number : ℕ) (test : OpenOrder → Bool) (q : Option OpenOrder) (o : OpenOrder) → order.is_at number test q ≡ true → q ≡ Some o → test o ≡ true
-test-at number test None o h e = cc
-test-at number test (Some x) o h e =
-    let is : x ≡ o = cc in subst (λ (y : OpenOrder). test y ≡ true) is (and_parts (x.number == number) (test x) h).1
 
 at-order : (me : ℕ) (s : BrickState) (number : ℕ) (test : OpenOrder → Bool) (row : BrickState → OpenOrder → BrickTurn) → Orderly me s.order
     → Owes s test row → Goes s (order.at_order s number test row)

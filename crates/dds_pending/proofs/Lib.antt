@@ -6,3 +6,4 @@ pub mod Turns
 pub mod Prepares
 pub mod Keeps
 pub mod Runs
+pub mod SentPrepares

@@ -1,23 +1,21 @@
-use Rattle.std.proofs.Common.{◌≡◌, ℕ, inl, inr, true, List, sym, ap, ◌∙◌, subst}
-use Rattle.std.proofs.lemmas.Bool.{both_ways}
+use Rattle.std.proofs.Common.{◌≡◌, ℕ, inl, inr, true, List, sym, subst}
 use Rattle.std.specs.List.{AllByRecursion}
 use Rattle.dds_base.specs.Op.{the_key}
 use Rattle.dds_cluster.proofs.Sizes.{sized-start}
 use Rattle.dds_cluster.specs.Trace.{is_run, start}
-use Rattle.dds_cluster.specs.World.{World}
 use Rattle.dds_cluster.specs.declared.step.Step.{Step}
 use Rattle.dds_core.proofs.Lists.{all-is}
 use Rattle.dds_law_leaf.proofs.Openings.{start-known}
-use Rattle.dds_law_notice.proofs.Views.{view}
 use Rattle.dds_net.proofs.Nodes.{brick-node}
 use Rattle.dds_net.proofs.Opening.{IsNew, new_a_brick, new_a_library, no_node, start-channel, start-node}
 use Rattle.dds_net.proofs.Runs.{run-keeps}
-use Rattle.dds_net.specs.Net.{Node, Sizes, net, sizes_of}
+use Rattle.dds_net.specs.Net.{Node, net, sizes_of}
 use Rattle.dds_orders.proofs.Stood.{start-stood}
+use Rattle.dds_parents.proofs.Keeps.{Gone}
+use Rattle.dds_parents.proofs.Parents.{gone-not}
 use Rattle.dds_script.specs.Opening.{IsOpening, OpeningOf}
-use Rattle.dds_states.specs.declared.brick_state.BrickState.{BrickState}
-use Rattle.dds_world.specs.Places.{IsLive, reached}
-use Rattle.dds_pending.proofs.Fits.{AreFitting, Fits, Gone, NodeFits, PrepareOk, found-at}
+use Rattle.dds_world.specs.Places.{reached}
+use Rattle.dds_pending.proofs.Fits.{AreFitting, Fits, NodeFits, PrepareOk, found-at}
 use Rattle.dds_pending.proofs.Keeps.{fitting-kept}
 use Rattle.dds_pending.specs.Law.{PendingListsTheLive}
 
@@ -46,10 +44,6 @@ run-fitting o journal h run =
     let z = sizes_of o in
     (run-keeps z (Unit {0}) (λ h n e u. tt) (λ h n u. AreFitting z n) journal (start o) h.ranges.bricks (fitting-kept z h.ranges.bricks h.ranges.libraries)
     (record { sized = sized-start o; books = tt; is = start-fitting o h }) run).is
-
--- a live brick hasn't stopped
-gone-not : (z : Sizes) (w : World) (brick : ℕ) (s : BrickState) → IsLive w brick s → Gone (net z w) brick → ⊥
-gone-not z w brick s live gone = both_ways s.stopped live.live (ap (λ x. (view x).stopped) (sym (brick-node w brick s live.there)) ∙ gone)
 
 pub pending-lists : PendingListsTheLive
 pending-lists o journal brick s at p leaf h run is serves other t has_it live =

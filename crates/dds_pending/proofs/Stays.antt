@@ -1,4 +1,4 @@
-use Rattle.std.proofs.Common.{◌≡◌, ℕ, Bool, true, false, Some, List, [], ◌∷◌, refl, sym, ap, ◌∙◌, subst}
+use Rattle.std.proofs.Common.{◌≡◌, ℕ, true, false, Some, List, [], ◌∷◌, refl, sym, ap, ◌∙◌, subst}
 use Rattle.std.proofs.lemmas.Bool.{both_ways}
 use Rattle.std.specs.FinMap.{get, remove}
 use Rattle.std.specs.List.{AllByRecursion}
@@ -20,7 +20,7 @@ use Rattle.dds_law_own.proofs.Lists.{none-passes}
 use Rattle.dds_law_own.proofs.Owned.{Free, made_name}
 use Rattle.dds_law_own.proofs.Parted.{IsBoth}
 use Rattle.dds_locks.specs.declared.leases.Lease.{Lease}
-use Rattle.dds_orders.proofs.Covered.{given-is, lease-meets, mine-meets}
+use Rattle.dds_orders.proofs.Covered.{Unlocked, false-of, given-is, lease-meets, mine-meets, not-either}
 use Rattle.dds_orders.proofs.Leased.{put-apart, remove-apart, replaced-apart}
 use Rattle.dds_orders.proofs.Over.{IsOver, within-covers}
 use Rattle.dds_orders.proofs.Standing.{Standing, keyed, order-is}
@@ -35,14 +35,6 @@ use Rattle.dds_pending.proofs.OrderLeaves.{served_as}
 
 -- A turn leaves the leaves over the keys that were pending before it: it replaces a leaf under whose name nothing is pending, or one
 -- under a lease, and a lease has nothing pending under it; or a join serves a leaf beside the others.
-
-false-of : (c : Bool) → (c ≡ true → ⊥) → c ≡ false
-false-of true f = absurd (f refl)
-false-of false f = refl
-
-not-either : (a b : Bool) → a ≡ false → (b ≡ true → a ≡ true) → b ≡ false
-not-either a true e f = sym (f refl) ∙ e
-not-either a false e f = refl
 
 -- a leaf over the key has nothing in common with one that isn't
 apart-from : (m : LeafMap) (n q : Name) (key : ℕ) → Disjoint m → Has m n → covers n key ≡ false → covers q key ≡ true → Has m q → overlaps q n ≡ false
@@ -71,9 +63,6 @@ split-stays m name made key is f q l over there =
 -- nothing is pending under a leaf over which a lease stands
 abbrev IsLeased : Own → Lease → Type 0
 IsLeased x l = IsOver x.leaves l.name × Free x.pending l
-
-abbrev Unlocked : Name → Pending → Type 0
-Unlocked name p = covers name (the_key p.op) ≡ false
 
 leased-all : (me : ℕ) (x : Own) → IsBoth me x → Standing x → AllByRecursion (IsLeased x) x.leases
 leased-all me x b h = all-both (λ (l : Lease). IsOver x.leaves l.name) (Free x.pending) x.leases h.over b.0.free

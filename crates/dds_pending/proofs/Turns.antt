@@ -24,7 +24,7 @@ use Rattle.dds_law_leaf.proofs.Maps.{each-is, in-for}
 use Rattle.dds_law_own.proofs.Changes.{own}
 use Rattle.dds_law_own.proofs.Disjoint.{Disjoint}
 use Rattle.dds_law_own.proofs.Parted.{IsBoth}
-use Rattle.dds_law_own.proofs.Ways.{first-none}
+use Rattle.dds_law_own.proofs.Ways.{first-none, none-denied}
 use Rattle.dds_letters.specs.declared.letter.Letter.{Letter}
 use Rattle.dds_letters.specs.declared.letter.Letter.TheVariants as letter
 use Rattle.dds_letters.specs.declared.refusal.Denial.{Denial}
@@ -66,11 +66,6 @@ kept me gone later s k h w d =
     (λ p i. fits-stays gone later s.leaves k p h.more d i.1.0 i.0 i.1.1)
     (all-both (λ (p : Pending). Stays s.leaves k (the_key p.op)) (λ (p : Pending). Covers s.leaves p × Fits gone s.leaves p) s.locks.pending
     (leads-stays me s k h.both h.stands w) (all-both (Covers s.leaves) (Fits gone s.leaves) s.locks.pending h.covers h.fit))
-
--- a brick prepares where its leaf over the key has the stamp that the letter tells
-none-denied : (r : Option Refusal) → as_denial r ≡ None → r ≡ None
-none-denied None e = refl
-none-denied (Some why) e = cc
 
 if-none : (c : Bool) (x : Refusal) → (if c then None else Some x) ≡ None → c ≡ true
 if-none true x e = refl
