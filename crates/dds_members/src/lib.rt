@@ -1,0 +1,4 @@
+//! That no node stands twice in lists.
+#![tactic(auto)]
+
+pub mod laws;
