@@ -9,20 +9,25 @@ use std::alloc::Global;
 use std::collections::VecDeque;
 use std::marker::Model;
 
-/// Letters that wait, each with its receiver, in the order of sending.
+/// Letters that wait, each with its receiver, in the order of sending. Most turns send one, so that the first takes no
+/// memory; where there is no first, there are no others.
 #[derive(Drop)]
 pub struct Outbox {
-    letters: VecDeque<(NodeNo, Letter)>,
+    first: Option<(NodeNo, Letter)>,
+    others: VecDeque<(NodeNo, Letter)>,
 }
 
 impl Model for Outbox {
-    ghost use Rattle.std.specs.Prelude.{ℕ, List};
+    ghost use Rattle.std.specs.Prelude.{ℕ, List, None, [], ◌≡◌};
+    ghost use Rattle.std.specs.List.{cons_option};
     ghost use Rattle.dds_letters.specs.declared.letter.Letter.{Letter};
     ghost use Rattle.dds_base.specs.declared.number.NodeNo.{NodeNo};
 
     ghost Value = { List (NodeNo × Letter) };
 
-    ghost view = { λ a. a.letters.items };
+    ghost view = { λ a. cons_option a.first a.others.items };
+
+    ghost invariant = { λ a. a.first ≡ None → a.others.items ≡ [] };
 }
 
 impl Outbox {
@@ -31,7 +36,8 @@ impl Outbox {
         ensures { result ≡ [] }
     {
         Outbox {
-            letters: VecDeque::new(alloc),
+            first: None,
+            others: VecDeque::new(alloc),
         }
     }
 
@@ -39,7 +45,11 @@ impl Outbox {
         ensures ok { OnOk result (self.new ≡ self.old ++ (to, letter) ∷ []) }
         ensures err { OnErr result (self.new ≡ self.old) }
     {
-        self.letters.push_back((to, letter))?;
+        if self.first.is_none() {
+            self.first = Some((to, letter));
+            return Ok(());
+        }
+        self.others.push_back((to, letter))?;
         Ok(())
     }
 
@@ -48,14 +58,22 @@ impl Outbox {
         ensures first { result ≡ slice_get self.old 0 }
         ensures rest { self.new ≡ drop 1 self.old }
     {
-        self.letters.pop_front()
+        let next = self.others.pop_front();
+        std::mem::replace(&mut self.first, next)
     }
 
     /// Takes all letters of another outbox, behind its own.
     pub fn append(&mut self, mut other: Outbox) -> Result<(), Memory>
         ensures ok { OnOk result (self.new ≡ self.old ++ other) }
     {
-        self.letters.append(&mut other.letters)?;
+        if self.first.is_none() {
+            *self = other;
+            return Ok(());
+        }
+        if let Some(letter) = other.first.take() {
+            self.others.push_back(letter)?;
+        }
+        self.others.append(&mut other.others)?;
         Ok(())
     }
 }

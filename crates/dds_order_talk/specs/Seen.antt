@@ -14,6 +14,7 @@ use Rattle.dds_letters.specs.declared.letter.Letter.TheVariants as letter
 use Rattle.dds_letters.specs.declared.refusal.Wanted.{Wanted}
 use Rattle.dds_letters.specs.declared.refusal.Wanted.TheVariants as wanted
 use Rattle.dds_locks.specs.Leases.{is_given}
+use Rattle.dds_net.specs.Net.{Net, a_brick}
 use Rattle.dds_states.specs.declared.brick_state.BrickState.{BrickState}
 use Rattle.dds_states.specs.declared.brick_state.OpenOrder.{OpenOrder}
 use Rattle.dds_states.specs.declared.brick_state.OrderPhase.{OrderPhase}
@@ -124,3 +125,9 @@ BrickTalk d j m x s t out back =
     has_node s.known m ≡ false
     → Talks x (Own t.leaves x) (New t.leaves x) (not s.stopped) (not t.stopped) (view d s.order x m) (asks s.order x out)
     (is_given t.locks.leases x j) (says s.order x back)
+
+-- every two bricks talk so, about each name
+abbrev pub OrdersTalk : Net → Type 0
+OrdersTalk n =
+    (j m : ℕ) (x : Name) (s t : BrickState)
+    → n.node j ≡ a_brick s → n.node m ≡ a_brick t → (j == m) ≡ false → BrickTalk rests j m x s t (n.channel j m) (n.channel m j)

@@ -61,7 +61,14 @@ pub fn unknown_members(
 ) -> Result<NodeList, Memory>
     ensures { IfOk result (λ list. list ≡ unknown group.now known.now) }
 {
-    unknown(alloc, members(alloc, group)?.as_slice(), known)
+    let mut list = NodeList::new(alloc);
+    for place in 0..group.len() {
+        let node = group.at(place);
+        if !known.has(node) {
+            list.push(node)?;
+        }
+    }
+    Ok(list)
 }
 
 /// The other ones of them.
