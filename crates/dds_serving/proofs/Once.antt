@@ -1,4 +1,4 @@
-use Rattle.std.proofs.Common.{◌≡◌, ℕ, ◌+◌, ◌++◌, ◌==◌, ◌&&◌, ◌||◌, Bool, true, false, Option, Some, None, refl, sym, ap, ◌∙◌}
+use Rattle.std.proofs.Common.{◌≡◌, inl, ℕ, ◌+◌, ◌++◌, ◌==◌, ◌&&◌, ◌||◌, Bool, true, false, Option, Some, None, refl, sym, ap, ◌∙◌}
 use Rattle.std.specs.FinMap.{get, keys}
 use Rattle.std.specs.List.{list_any}
 use Rattle.std.specs.Prelude.{is_some, if◌then◌else◌}
@@ -164,7 +164,7 @@ letter-once s from (letter.Outcome txn commit) = plain-once s None _ (plain.outc
 letter-once s from (letter.Lease number what) = lease_row s from number what
 letter-once s from (letter.Granted number leaf) =
     at-order s (Some leaf) number (order.takes_grant s.number leaf) (λ t o. order.grants t (order.with_grant o from) from leaf o.task)
-    (λ p. own.grants p (record s { order = None }) (order.with_grant p from) from leaf p.task (refl, refl, refl))
+    (λ p. own.grants p (record s { order = None }) (order.with_grant p from) from leaf p.task refl (refl, refl, refl, inl refl))
 letter-once s from (letter.LeaseRefused number why) =
     at-order s _ number (λ o. order.is_leasing o.phase) (λ t o. order.ends t o (answered.Refused (order.met_of why from)))
     (λ p. own.ends p (record s { order = None }) p (answered.Refused (order.met_of why from)))
@@ -173,13 +173,13 @@ letter-once s from (letter.CopyAsk number name place) =
 letter-once s from (letter.CopyPart number last pairs) =
     at-order s None number (λ o. order.is_source from o.phase && order.fits o pairs)
     (λ t o. order.copied_on t (record o { copied = o.copied ++ pairs }) from last)
-    (λ p. own.copied_on p (record s { order = None }) (record p { copied = p.copied ++ pairs }) from last (refl, refl, refl))
+    (λ p. own.copied_on p (record s { order = None }) (record p { copied = p.copied ++ pairs }) from last (refl, refl, refl, inl refl))
 letter-once s from (letter.Install number leaf) =
     once-when s (Some leaf) (is_some (lease_of s.locks.leases leaf.name from) && has leaf.list s.number)
     (λ e. installed_over s from number leaf (own_leaf s.leaves leaf.name) refl) (λ e. stays refl)
 letter-once s from (letter.Installed number name) =
     at-order s None number (λ o. order.is_installing o.phase) (λ t o. order.installed_in t (record o { waiting = without o.waiting from }) o.phase)
-    (λ p. own.installed_in p (record s { order = None }) (record p { waiting = without p.waiting from }) p.phase refl (refl, refl, refl))
+    (λ p. own.installed_in p (record s { order = None }) (record p { waiting = without p.waiting from }) p.phase refl (refl, refl, refl, inl refl))
 letter-once s from letter.Notice = notice_row s from
 letter-once s from other = stays refl
 
@@ -192,7 +192,7 @@ split_leaf s name leaf none there =
     (λ w. once-when s None (is_some (leased s.locks.leases leaf.name)) (λ e. stays refl)
     (λ e. once-when s None (any_under s.locks.pending leaf.name) (λ f. stays refl)
     (λ f. once-as s None (order.leases_on u p) (order.split_opens s leaf) refl
-    (of-order s None p (order.leases_on u p) (opens name leaf none there refl refl refl refl) (own.leases_on p u p (refl, refl, refl)))))))
+    (of-order s None p (order.leases_on u p) (opens name leaf none there refl refl refl refl) (own.leases_on p u p (refl, refl, refl, inl refl)))))))
 
 split_named : (s : BrickState) (name : Name) (leaf : Option Leaf) → s.order ≡ None → get s.leaves name ≡ leaf
     → ChangeOnce s None (order.split_named s leaf)

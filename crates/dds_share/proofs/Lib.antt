@@ -1,0 +1,6 @@
+pub mod Over
+pub mod Together
+pub mod Turned
+pub mod Changes
+pub mod Joins
+pub mod JoinTurns

@@ -1,0 +1,7 @@
+use Rattle.dds_share.proofs.Changes as changes
+use Rattle.dds_share.proofs.JoinTurns as joins
+use Rattle.dds_share.proofs.Turned as turned
+use Rattle.dds_share.proofs.laws.servers_share.Goals as goal
+
+pub returns : goal.returns
+returns c = let x = turned.share-turned in let y = changes.split in let z = joins.order-still in ?
