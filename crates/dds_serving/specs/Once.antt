@@ -38,12 +38,16 @@ pub data HasMadeLeaf (number made_before : NodeNo) (p : OpenOrder) (made : Leaf)
       → made ≡ made_leaf u o leaf o.task → HasMadeLeaf number made_before p made
 
 -- a brick's leaves after a turn in which it was told a leaf, or none: they are as before; or the told leaf stands in the place of an own
--- one; or the leaf that the open order made is served
-pub data ChangeOnce (s : BrickState) (told : Option Leaf) (t : BrickTurn) : Type 0 where
-  stays : t.state.leaves ≡ s.leaves → ChangeOnce s told t
+-- one
+pub data TakeOnce (s : BrickState) (told : Option Leaf) (t : BrickTurn) : Type 0 where
+  stays : t.state.leaves ≡ s.leaves → TakeOnce s told t
   takes : (mine leaf : Leaf) → told ≡ Some leaf → own_leaf s.leaves leaf.name ≡ Some mine
       → (is_some (successor mine leaf) || is_better_rival (has_node s.known) mine leaf) ≡ true → t.state.leaves ≡ replaced s.leaves mine leaf
-      → ChangeOnce s told t
+      → TakeOnce s told t
+
+-- or the leaf that the open order made is served
+pub data ChangeOnce (s : BrickState) (told : Option Leaf) (t : BrickTurn) : Type 0 where
+  rests : TakeOnce s told t → ChangeOnce s told t
   serves : (p : OpenOrder) (made : Leaf) → IsOpen s p → HasMadeLeaf s.number s.made p made
       → t.state.leaves ≡ (serving s p made p.task).leaves → ChangeOnce s told t
 

@@ -1,12 +1,14 @@
-use Rattle.std.proofs.Common.{◌≡◌, ℕ, ◌==◌, ◌&&◌, ◌++◌, Bool, true, false, Option, Some, None, List, refl, sym, ap, ◌∙◌, subst}
+use Rattle.std.proofs.Common.{◌≡◌, ℕ, ◌==◌, ◌&&◌, ◌||◌, ◌+◌, ◌++◌, Bool, true, false, Option, Some, None, List, [], ◌∷◌, refl, sym, ap, ◌∙◌, subst}
 use Rattle.std.proofs.lemmas.Bool.{and_parts, eqb-true}
-use Rattle.std.specs.FinMap.{get}
+use Rattle.std.specs.FinMap.{get, keys}
+use Rattle.std.specs.List.{list_any}
 use Rattle.std.specs.Prelude.{is_some, if◌then◌else◌}
 use Rattle.dds_base.specs.BrickList.{has}
-use Rattle.dds_base.specs.Name.{Name}
+use Rattle.dds_base.specs.Name.{Name, overlaps}
 use Rattle.dds_base.specs.Number.{Txn}
 use Rattle.dds_base.specs.NodeSet.{has_node}
 use Rattle.dds_base.specs.declared.leaf.Leaf.{Leaf}
+use Rattle.dds_base.specs.declared.name.TheConstants.{DEPTH}
 use Rattle.dds_base.specs.declared.number.NodeNo.{NodeNo}
 use Rattle.dds_base.specs.declared.op.Order.{Order}
 use Rattle.dds_base.specs.declared.op.Order.TheVariants as the_order
@@ -30,37 +32,56 @@ use Rattle.dds_letters.specs.declared.refusal.Denial.{Denial}
 use Rattle.dds_letters.specs.declared.refusal.Refusal.{Refusal}
 use Rattle.dds_letters.specs.declared.refusal.Wanted.{Wanted}
 use Rattle.dds_letters.specs.declared.refusal.Wanted.TheVariants as wanted
-use Rattle.dds_locks.specs.Leases.{is_given, lease_of}
+use Rattle.dds_locks.specs.Leases.{is_given, lease_of, leased}
+use Rattle.dds_locks.specs.Pending.{any_under}
 use Rattle.dds_maps.specs.Own.{own_leaf}
 use Rattle.dds_net.proofs.Puts.{if-keeps}
 use Rattle.dds_order_rows.specs.Orders as orders
 use Rattle.dds_order_rows.specs.OwnOrder as order
 use Rattle.dds_orders.proofs.Turns.{source-is}
-use Rattle.dds_states.specs.Turn.{BrickTurn, without}
+use Rattle.dds_states.specs.Turn.{BrickTurn, is_none_left, without}
 use Rattle.dds_states.specs.declared.brick_state.BrickState.{BrickState}
 use Rattle.dds_states.specs.declared.brick_state.OpenOrder.{OpenOrder}
+use Rattle.dds_states.specs.declared.brick_state.OrderPhase.TheVariants.{Installing}
+use Rattle.dds_states.specs.declared.brick_state.Task.{Task}
+use Rattle.dds_states.specs.declared.brick_state.Task.TheVariants.{Join, Split}
+use Rattle.dds_serving.proofs.Once as once
+use Rattle.dds_serving.specs.Once.{TakeOnce}
+use Rattle.dds_serving.specs.Once.TakeOnce.{stays}
+use Rattle.dds_world.specs.Groups.{letter_leaf}
 use Rattle.dds_share.proofs.Joins as joins
 use Rattle.dds_share.proofs.Joins.{IsAnswer, JoinGoes, at_once, begins, copies, ended, goes_on, installed, installs, is_part, leases, same-order, stops}
 
 -- Each letter at a brick with an open join.
 
--- the order stays
-stays : (s : BrickState) (p : OpenOrder) (from : NodeNo) (l : Letter) (t : BrickTurn) → s.order ≡ Some p → t.state.order ≡ s.order
-    → JoinGoes s.number s.known s.leaves p from l t
-stays s p from l t there e = goes_on p (e ∙ there) (same-order p) refl refl
+-- another letter leaves the order alone, and may have the brick take a leaf; or the order has its row
+pub data JoinTurn (s : BrickState) (p : OpenOrder) (from : NodeNo) (l : Letter) (t : BrickTurn) : Type 0 where
+  rests : t.state.order ≡ Some p → TakeOnce s (letter_leaf l) t → JoinTurn s p from l t
+  goes : JoinGoes s.number s.known s.leaves p from l t → JoinTurn s p from l t
 
-order-if : (c : Bool) (s : BrickState) {t u : BrickTurn} → t.state.order ≡ s.order → u.state.order ≡ s.order
+still : (s : BrickState) (p : OpenOrder) (from : NodeNo) (l : Letter) (t : BrickTurn) → s.order ≡ Some p → t.state.order ≡ s.order
+    → t.state.leaves ≡ s.leaves → JoinTurn s p from l t
+still s p from l t there e f = rests (e ∙ there) (stays f)
+
+order-if : (c : Bool) (s : BrickState) (t u : BrickTurn) → t.state.order ≡ s.order → u.state.order ≡ s.order
     → (if c then t else u).state.order ≡ s.order
-order-if true s e f = e
-order-if false s e f = f
+order-if true s t u e f = e
+order-if false s t u e f = f
 
-got : (s : BrickState) (from : NodeNo) (txn : Txn) (key : ℕ) (r : Option Refusal) → (calls.got s from txn key r).state.order ≡ s.order
-got s from txn key None = refl
-got s from txn key (Some why) = refl
+leaves-if : (c : Bool) (s : BrickState) (t u : BrickTurn) → t.state.leaves ≡ s.leaves → u.state.leaves ≡ s.leaves
+    → (if c then t else u).state.leaves ≡ s.leaves
+leaves-if true s t u e f = e
+leaves-if false s t u e f = f
 
-voted : (s u : BrickState) (from : NodeNo) (p : Pending) (d : Option Denial) → u.order ≡ s.order → (calls.voted u from p d).state.order ≡ s.order
-voted s u from p None e = e
-voted s u from p (Some d) e = e
+got : (s : BrickState) (p : OpenOrder) (from : NodeNo) (l : Letter) (txn : Txn) (key : ℕ) (r : Option Refusal) → s.order ≡ Some p
+    → JoinTurn s p from l (calls.got s from txn key r)
+got s p from l txn key None there = still s p from l _ there refl refl
+got s p from l txn key (Some why) there = still s p from l _ there refl refl
+
+voted : (s u : BrickState) (p : OpenOrder) (from : NodeNo) (l : Letter) (q : Pending) (d : Option Denial) → s.order ≡ Some p → u.order ≡ s.order
+    → u.leaves ≡ s.leaves → JoinTurn s p from l (calls.voted u from q d)
+voted s u p from l q None there e f = still s p from l _ there e f
+voted s u p from l q (Some d) there e f = still s p from l _ there e f
 
 took-if : (c : Bool) (s u : BrickState) → u.order ≡ s.order → (if c then u else s).order ≡ s.order
 took-if true s u e = e
@@ -89,10 +110,10 @@ lease_row s from number (wanted.Leaf leaf) =
 installed_over : (s : BrickState) (from : NodeNo) (number : ℕ) (leaf : Leaf) (mine : Option Leaf)
     → (orders.installed_over s from number leaf mine).state.order ≡ s.order
 installed_over s from number leaf None = refl
-installed_over s from number leaf (Some mine) = order-if (is_some (successor mine leaf)) s refl refl
+installed_over s from number leaf (Some mine) = order-if (is_some (successor mine leaf)) s _ _ refl refl
 
-plainly : (s : BrickState) (t : BrickTurn) → Plain (leafing s) t → t.state.order ≡ s.order
-plainly s t p = ap (λ (x : Leafing). x.order) p.same
+plainly : (s : BrickState) (p : OpenOrder) (from : NodeNo) (l : Letter) (t : BrickTurn) → s.order ≡ Some p → Plain (leafing s) t → JoinTurn s p from l t
+plainly s p from l t there h = still s p from l t there (ap (λ (x : Leafing). x.order) h.same) (ap (λ (x : Leafing). x.leaves) h.same)
 
 module _ (s : BrickState) (p : OpenOrder) (there : s.order ≡ Some p) (join : is_join p.task ≡ true) (from : NodeNo) where
   abbrev Goes : Letter → BrickTurn → Type 0
@@ -121,7 +142,7 @@ module _ (s : BrickState) (p : OpenOrder) (there : s.order ≡ Some p) (join : i
   at-order number l test row f =
       if-keeps (Goes l) (order.is_at number test s.order) _ _
       (λ e. let k = is-at number test s.order there e in with-order l row s.order refl (f k.0 k.1))
-      (λ e. stays s p from l _ there refl)
+      (λ e. goes_on p there (same-order p) refl refl refl refl)
 
   notice_row : Goes letter.Notice (notices.notice_row s from)
   notice_row =
@@ -131,62 +152,63 @@ module _ (s : BrickState) (p : OpenOrder) (there : s.order ≡ Some p) (join : i
       let d = (notices.deferred_part c).state in
       let same : leafing (notices.pending_part d from).state ≡ leafing b =
       (plain.pending_part d from).same ∙ (plain.deferred_part c).same ∙ (plain.all_hear b from news.Stopped).same in
-      as (ap (λ (x : Leafing). x.order) same) (ap (λ (x : Leafing). x.leaves) same)
+      like (ap (λ (x : Leafing). x.order) same) (ap (λ (x : Leafing). x.leaves) same)
       (if-keeps (Goes letter.Notice) (notices.concerns_some from a.order) _ _
       (λ e. with-order-of (joins.order_goes p join from letter.Notice s.number s.known (record a { order = None }) p.phase refl stops))
-      (λ e. stays s p from letter.Notice _ there refl))
+      (λ e. goes_on p there (same-order p) refl refl refl refl))
     where
-      as : {t u : BrickTurn} → u.state.order ≡ t.state.order → u.state.leaves ≡ t.state.leaves → Goes letter.Notice t → Goes letter.Notice u
-      as e f (leases o g h i) = leases o (e ∙ g) h i
-      as e f (goes_on o g h i j) = goes_on o (e ∙ g) h i j
-      as e f (begins o n g h i j) = begins o n (e ∙ g) h i j
-      as e f (copies o g h i j) = copies o (e ∙ g) h i j
-      as e f (ended g h) = ended (e ∙ g) (f ∙ h)
-      as e f (installed made g h i j k) = installed made g h i (e ∙ j) (f ∙ k)
-      as e f (at_once leaf v o g h i j k w n q r) = at_once leaf v o g h i j k w n (e ∙ q) (f ∙ r)
+      like : {t u : BrickTurn} → u.state.order ≡ t.state.order → u.state.leaves ≡ t.state.leaves → Goes letter.Notice t → Goes letter.Notice u
+      like e f (leases o g h i j) = leases o (e ∙ g) h i (f ∙ j)
+      like e f (goes_on o g h i j k n) = goes_on o (e ∙ g) h i j k (f ∙ n)
+      like e f (begins o n g h i j k q) = begins o n (e ∙ g) h i j k (f ∙ q)
+      like e f (copies o g h i j k n) = copies o (e ∙ g) h i j k (f ∙ n)
+      like e f (ended g h) = ended (e ∙ g) (f ∙ h)
+      like e f (installed made g h i j k) = installed made g h i (e ∙ j) (f ∙ k)
+      like e f (at_once leaf v o g h i j k w n q r) = at_once leaf v o g h i j k w n (e ∙ q) (f ∙ r)
 
       with-order-of : Goes letter.Notice (notices.order_goes (record (notices.learns s from) { order = None }) p from p.phase)
           → Goes letter.Notice (order.with_order (notices.learns s from) (λ t o. notices.order_goes t o from o.phase) s.order)
       with-order-of h = subst (λ q. Goes letter.Notice (order.with_order (notices.learns s from) (λ t o. notices.order_goes t o from o.phase) q)) (sym there) h
 
-  pub letter-goes : (l : Letter) → Goes l (live_brick_turn s from l)
-  letter-goes (letter.Get txn caller call key name stamp) =
-      stays s p from _ _ there (got s from txn key (get_refusal s key name stamp))
+  pub letter-goes : (l : Letter) → JoinTurn s p from l (live_brick_turn s from l)
+  letter-goes (letter.Get txn caller call key name stamp) = got s p from _ txn key (get_refusal s key name stamp) there
   letter-goes (letter.Prepare txn caller call below name stamp list op) =
-      stays s p from _ _ there (voted s (calls.trim s txn.library below) from
-      (record { txn = txn; caller = caller; call = call; op = op; list = list }) (update_denial s op name stamp) refl)
-  letter-goes (letter.Commit txn) = stays s p from _ _ there (plainly s _ (plain.commit_row s from txn))
-  letter-goes (letter.Abort txn) = stays s p from _ _ there (plainly s _ (plain.abort_row s from txn))
-  letter-goes (letter.Push leaf) = stays s p from _ _ there (took s leaf (own_leaf s.leaves leaf.name))
-  letter-goes (letter.Help txn list) = stays s p from _ _ there (plainly s _ (plain.help_row s from txn list))
-  letter-goes (letter.Query txn list) = stays s p from _ _ there (plainly s _ (plain.query_row s from txn list))
-  letter-goes (letter.Status txn status) = stays s p from _ _ there (plainly s _ (plain.all_hear s from (news.Told txn status)))
-  letter-goes (letter.Outcome txn commit) = stays s p from _ _ there (plainly s _ (plain.outcome_row s txn commit))
-  letter-goes (letter.Lease number what) = stays s p from _ _ there (lease_row s from number what)
+      voted s (calls.trim s txn.library below) p from _ (record { txn = txn; caller = caller; call = call; op = op; list = list })
+      (update_denial s op name stamp) there refl refl
+  letter-goes (letter.Commit txn) = plainly s p from _ _ there (plain.commit_row s from txn)
+  letter-goes (letter.Abort txn) = plainly s p from _ _ there (plain.abort_row s from txn)
+  letter-goes (letter.Push leaf) =
+      rests (took s leaf (own_leaf s.leaves leaf.name) ∙ there) (once.took s leaf (takes.push_row s leaf) (own_leaf s.leaves leaf.name) refl refl)
+  letter-goes (letter.Help txn list) = plainly s p from _ _ there (plain.help_row s from txn list)
+  letter-goes (letter.Query txn list) = plainly s p from _ _ there (plain.query_row s from txn list)
+  letter-goes (letter.Status txn status) = plainly s p from _ _ there (plain.all_hear s from (news.Told txn status))
+  letter-goes (letter.Outcome txn commit) = plainly s p from _ _ there (plain.outcome_row s txn commit)
+  letter-goes (letter.Lease number what) = rests (lease_row s from number what ∙ there) (once.lease_row s from number what)
   letter-goes (letter.Granted number leaf) =
-      at-order number _ (order.takes_grant s.number leaf) (λ t o. order.grants t (order.with_grant o from) from leaf o.task)
-      (λ e h. joins.granted p join from _ s.number s.known s from leaf h)
+      goes (at-order number _ (order.takes_grant s.number leaf) (λ t o. order.grants t (order.with_grant o from) from leaf o.task)
+      (λ e h. joins.granted p join from _ s.number s.known s from leaf h))
   letter-goes (letter.LeaseRefused number why) =
-      at-order number _ (λ o. order.is_leasing o.phase) (λ t o. order.ends t o (answered.Refused (order.met_of why from)))
-      (λ e h. joins.ends p join from _ s.number s.known (record s { order = None }) p (answered.Refused (order.met_of why from)))
+      goes (at-order number _ (λ o. order.is_leasing o.phase) (λ t o. order.ends t o (answered.Refused (order.met_of why from)))
+      (λ e h. joins.ends p join from _ s.number s.known (record s { order = None }) p (answered.Refused (order.met_of why from))))
   letter-goes (letter.CopyAsk number name place) =
-      stays s p from _ _ there (order-if (is_given s.locks.leases name from && is_some (get s.leaves name)) s refl refl)
+      let c = is_given s.locks.leases name from && is_some (get s.leaves name) in
+      still s p from _ _ there (order-if c s _ _ refl refl) (leaves-if c s _ _ refl refl)
   letter-goes (letter.CopyPart number last pairs) =
-      at-order number _ (λ o. order.is_source from o.phase && order.fits o pairs)
+      goes (at-order number _ (λ o. order.is_source from o.phase && order.fits o pairs)
       (λ t o. order.copied_on t (record o { copied = o.copied ++ pairs }) from last)
       (λ e h. subst (λ i. Goes (letter.CopyPart i last pairs) (order.copied_on (record s { order = None }) (record p { copied = p.copied ++ pairs }) from last))
       e (joins.copied_on p join from _ s.number s.known (record s { order = None }) (record p { copied = p.copied ++ pairs }) from last refl
       (source-is from p.phase (and_parts (order.is_source from p.phase) (order.fits p pairs) h).0) (is_part last pairs) refl refl refl refl
-      (record { number = refl; name = refl; granted = λ n k. k })))
+      (record { number = refl; name = refl; granted = λ n k. k }))))
   letter-goes (letter.Install number leaf) =
-      stays s p from _ _ there (order-if (is_some (lease_of s.locks.leases leaf.name from) && has leaf.list s.number) s
-      (installed_over s from number leaf (own_leaf s.leaves leaf.name)) refl)
+      let c = is_some (lease_of s.locks.leases leaf.name from) && has leaf.list s.number in
+      rests (order-if c s _ _ (installed_over s from number leaf (own_leaf s.leaves leaf.name)) refl ∙ there) (once.install_row s from number leaf)
   letter-goes (letter.Installed number name) =
-      at-order number _ (λ o. order.is_installing o.phase) (λ t o. order.installed_in t (record o { waiting = without o.waiting from }) o.phase)
+      goes (at-order number _ (λ o. order.is_installing o.phase) (λ t o. order.installed_in t (record o { waiting = without o.waiting from }) o.phase)
       (λ e h. subst (λ i. Goes (letter.Installed i name) (order.installed_in (record s { order = None }) (record p { waiting = without p.waiting from }) p.phase))
-      e (joins.installed_in p join from _ s.number s.known s p.phase refl (installs name)))
-  letter-goes letter.Notice = notice_row
-  letter-goes other = stays s p from _ _ there refl
+      e (joins.installed_in p join from _ s.number s.known s p.phase refl (installs name))))
+  letter-goes letter.Notice = goes notice_row
+  letter-goes other = still s p from _ _ there refl refl
 
 -- an order: the open one stays
 refused : (s : BrickState) (c : Bool) (q : Option OpenOrder) (p : OpenOrder) (t : BrickTurn) → q ≡ Some p
@@ -198,3 +220,67 @@ refused s false None p t e = cc
 pub order-still : (s : BrickState) (p : OpenOrder) (o : Order) → s.order ≡ Some p → (brick_input s o).state ≡ s
 order-still s p (the_order.Join brick name via) e = refused s s.stopped s.order p _ e
 order-still s p (the_order.Split brick name) e = refused s s.stopped s.order p _ e
+
+-- or a new one opens, and a join leases
+pub record Opened (t : BrickTurn) : Type 0 where
+  pub is : (o : OpenOrder) → t.state.order ≡ Some o → is_join o.task ≡ true → order.is_leasing o.phase ≡ true
+
+none-open : (t : BrickTurn) → t.state.order ≡ None → Opened t
+none-open t e = record { is = λ o f j. let no : None ≡ Some o = sym e ∙ f in cc }
+
+split-open : (t : BrickTurn) (p : OpenOrder) → t.state.order ≡ Some p → p.task ≡ Split → Opened t
+split-open t p e task =
+    record { is = λ o f j. let is : Some p ≡ Some o = sym e ∙ f in let same : p ≡ o = cc in absurd (no (sym (ap (λ (x : OpenOrder). is_join x.task) same) ∙ ap is_join task) j) }
+  where
+    no : {c : Bool} → c ≡ false → c ≡ true → ⊥
+    no e f = let n : true ≡ false = sym f ∙ e in cc
+
+opened-if : (c : Bool) {t u : BrickTurn} → Opened t → Opened u → Opened (if c then t else u)
+opened-if true h k = h
+opened-if false h k = k
+
+installs_from : (s : BrickState) (o : OpenOrder) (made : Leaf) (nodes : List NodeNo) → o.task ≡ Split → Opened (order.installs_from s o made nodes)
+installs_from s o made [] task = none-open _ refl
+installs_from s o made (n ∷ ns) task = split-open _ (record o { waiting = n ∷ ns; phase = Installing made }) refl task
+
+leased_all : (s : BrickState) (o : OpenOrder) (leaf : Leaf) (t : Task) → t ≡ Split → o.task ≡ Split → Opened (order.leased_all s o leaf t)
+leased_all s o leaf (Join via) e task = cc
+leased_all s o leaf Split e task =
+    installs_from (record s { made = s.made + 1 }) o (order.made_leaf s o leaf o.task) (without (order.parting s o leaf) s.number) task
+
+leased_all_at : (s : BrickState) (o : OpenOrder) (leaf : Option Leaf) → o.task ≡ Split → Opened (order.leased_all_at s o leaf)
+leased_all_at s o None task = split-open _ o refl task
+leased_all_at s o (Some leaf) task = leased_all s o leaf o.task task task
+
+split_opens : (s : BrickState) (leaf : Leaf) → Opened (order.split_opens s leaf)
+split_opens s leaf =
+    let u = record (orders.leasing s leaf.name s.number) { orders = s.orders + 1 } in
+    let p = order.new_split s leaf in
+    like (opened-if (is_none_left p.waiting) (leased_all_at u p p.leaf refl) (split-open _ p refl refl))
+  where
+    like : Opened (order.leases_on (record (orders.leasing s leaf.name s.number) { orders = s.orders + 1 }) (order.new_split s leaf))
+        → Opened (order.split_opens s leaf)
+    like h = record { is = h.is }
+
+split_leaf : (s : BrickState) (leaf : Leaf) → s.order ≡ None → Opened (order.split_leaf s leaf)
+split_leaf s leaf e =
+    opened-if (leaf.name.depth == DEPTH) (none-open _ e) (opened-if (order.is_worn leaf) (none-open _ e)
+    (opened-if (is_some (leased s.locks.leases leaf.name)) (none-open _ e)
+    (opened-if (any_under s.locks.pending leaf.name) (none-open _ e) (split_opens s leaf))))
+
+split_named : (s : BrickState) (leaf : Option Leaf) → s.order ≡ None → Opened (order.split_named s leaf)
+split_named s None e = none-open _ e
+split_named s (Some leaf) e = split_leaf s leaf e
+
+join_opens : (s : BrickState) (name : Name) (via : NodeNo) → Opened (order.join_opens s name via)
+join_opens s name via =
+    let p = order.opens s (Join via) name None (via ∷ []) in
+    record { is = λ o f j. let is : Some p ≡ Some o = f in let same : p ≡ o = cc in sym (ap (λ (x : OpenOrder). order.is_leasing x.phase) same) }
+
+pub order-opens : (s : BrickState) (o : Order) → s.order ≡ None → Opened (brick_input s o)
+order-opens s (the_order.Join brick name via) e =
+    opened-if s.stopped (none-open _ e) (opened-if (is_some s.order) (none-open _ e)
+    (opened-if (list_any (λ other. overlaps other name) (keys s.leaves)) (none-open _ e)
+    (opened-if (via == s.number || has_node s.known via) (none-open _ e) (join_opens s name via))))
+order-opens s (the_order.Split brick name) e =
+    opened-if s.stopped (none-open _ e) (opened-if (is_some s.order) (none-open _ e) (split_named s (get s.leaves name) e))

@@ -49,11 +49,14 @@ pub data IsPart (p : OpenOrder) : Letter → Type 0 where
 
 -- the brick after a letter, where the join p was open before; it had this number, knew these nodes, and had these leaves
 pub data JoinGoes (number : ℕ) (known : NodeSet) (m : LeafMap) (p : OpenOrder) (from : NodeNo) (l : Letter) (u : BrickTurn) : Type 0 where
-  leases : (o : OpenOrder) → u.state.order ≡ Some o → Same p o → order.is_leasing o.phase ≡ true → JoinGoes number known m p from l u
-  goes_on : (o : OpenOrder) → u.state.order ≡ Some o → Same p o → o.phase ≡ p.phase → o.copied ≡ p.copied → JoinGoes number known m p from l u
-  begins : (o : OpenOrder) (source : NodeNo) → u.state.order ≡ Some o → Same p o → o.copied ≡ [] → o.phase ≡ Copying source
+  leases : (o : OpenOrder) → u.state.order ≡ Some o → Same p o → order.is_leasing o.phase ≡ true → u.state.leaves ≡ m
       → JoinGoes number known m p from l u
-  copies : (o : OpenOrder) → u.state.order ≡ Some o → Same p o → p.phase ≡ Copying from → IsPart p l → JoinGoes number known m p from l u
+  goes_on : (o : OpenOrder) → u.state.order ≡ Some o → Same p o → o.phase ≡ p.phase → o.copied ≡ p.copied → o.leaf ≡ p.leaf
+      → u.state.leaves ≡ m → JoinGoes number known m p from l u
+  begins : (o : OpenOrder) (source : NodeNo) → u.state.order ≡ Some o → Same p o → o.copied ≡ [] → o.phase ≡ Copying source → is_some o.leaf ≡ true
+      → u.state.leaves ≡ m → JoinGoes number known m p from l u
+  copies : (o : OpenOrder) → u.state.order ≡ Some o → Same p o → p.phase ≡ Copying from → IsPart p l → o.leaf ≡ p.leaf
+      → u.state.leaves ≡ m → JoinGoes number known m p from l u
   ended : u.state.order ≡ None → u.state.leaves ≡ m → JoinGoes number known m p from l u
   installed : (made : Leaf) → p.phase ≡ Installing made → is_none_left (without p.waiting from) ≡ true → IsAnswer p l → u.state.order ≡ None
       → u.state.leaves ≡ served m p made p.task → JoinGoes number known m p from l u
@@ -79,23 +82,26 @@ module _ (p : OpenOrder) (join : is_join p.task ≡ true) (from : NodeNo) (l : L
   ends s o reply = ended refl (ap (λ (x : Own). x.leaves) (closed-if s o (is_join o.task)))
 
   -- it copies, or leases on
-  copies_from : (s : BrickState) (o : OpenOrder) (nodes : List NodeNo) → Same p o → Goes s.leaves (order.copies_from s o nodes)
-  copies_from s o [] same = ends s o answered.NoSource
-  copies_from s o (n ∷ ns) same =
+  copies_from : (s : BrickState) (o : OpenOrder) (leaf : Leaf) (nodes : List NodeNo) → o.leaf ≡ Some leaf → Same p o
+      → Goes s.leaves (order.copies_from s o nodes)
+  copies_from s o leaf [] fixed same = ends s o answered.NoSource
+  copies_from s o leaf (n ∷ ns) fixed same =
       begins (record o { copied = []; phase = Copying n }) n refl (record { number = same.number; name = same.name; granted = same.granted }) refl refl
+      (ap is_some fixed) refl
 
-  leased_all : (s : BrickState) (o : OpenOrder) (leaf : Leaf) (t : Task) → is_join t ≡ true → Same p o → Goes s.leaves (order.leased_all s o leaf t)
-  leased_all s o leaf (Join via) e same = copies_from s o (order.sources s o leaf) same
-  leased_all s o leaf Split e same = cc
+  leased_all : (s : BrickState) (o : OpenOrder) (leaf : Leaf) (t : Task) → o.leaf ≡ Some leaf → is_join t ≡ true → Same p o
+      → Goes s.leaves (order.leased_all s o leaf t)
+  leased_all s o leaf (Join via) fixed e same = copies_from s o leaf (order.sources s o leaf) fixed same
+  leased_all s o leaf Split fixed e same = cc
 
-  leased_all_at : (s : BrickState) (o : OpenOrder) (leaf : Option Leaf) → o.task ≡ p.task → order.is_leasing o.phase ≡ true → Same p o
+  leased_all_at : (s : BrickState) (o : OpenOrder) (leaf : Option Leaf) → o.leaf ≡ leaf → o.task ≡ p.task → order.is_leasing o.phase ≡ true → Same p o
       → Goes s.leaves (order.leased_all_at s o leaf)
-  leased_all_at s o None task leasing same = leases o refl same leasing
-  leased_all_at s o (Some leaf) task leasing same = leased_all s o leaf o.task (ap is_join task ∙ join) same
+  leased_all_at s o None fixed task leasing same = leases o refl same leasing refl
+  leased_all_at s o (Some leaf) fixed task leasing same = leased_all s o leaf o.task fixed (ap is_join task ∙ join) same
 
   pub leases_on : (s : BrickState) (o : OpenOrder) → o.task ≡ p.task → order.is_leasing o.phase ≡ true → Same p o → Goes s.leaves (order.leases_on s o)
   leases_on s o task leasing same =
-      goes-when s.leaves (is_none_left o.waiting) (λ e. leased_all_at s o o.leaf task leasing same) (λ e. leases o refl same leasing)
+      goes-when s.leaves (is_none_left o.waiting) (λ e. leased_all_at s o o.leaf refl task leasing same) (λ e. leases o refl same leasing refl)
 
   fixing : (s : BrickState) (o : OpenOrder) (sender : NodeNo) (leaf : Leaf) → o.task ≡ p.task → order.is_leasing o.phase ≡ true → Same p o
       → Goes s.leaves (order.fixes s o sender leaf)
@@ -106,10 +112,10 @@ module _ (p : OpenOrder) (join : is_join p.task ≡ true) (from : NodeNo) (l : L
       (record { number = same.number; name = same.name; granted = same.granted }))))
     where
       widening : Goes s.leaves (order.leases_on s (order.widened s o sender leaf)) → Goes s.leaves (order.fixed s o sender leaf)
-      widening (leases o e f g) = leases o e f g
-      widening (goes_on o e f g i) = goes_on o e f g i
-      widening (begins o n e f g i) = begins o n e f g i
-      widening (copies o e f g i) = copies o e f g i
+      widening (leases o e f g h) = leases o e f g h
+      widening (goes_on o e f g i j k) = goes_on o e f g i j k
+      widening (begins o n e f g i j k) = begins o n e f g i j k
+      widening (copies o e f g i j k) = copies o e f g i j k
       widening (ended e f) = ended e f
       widening (installed made e f g i j) = installed made e f g i j
       widening (at_once leaf v o e f g i j k q r w) = at_once leaf v o e f g i j k q r w
@@ -140,12 +146,13 @@ module _ (p : OpenOrder) (join : is_join p.task ≡ true) (from : NodeNo) (l : L
   finishes s o made task =
       ap (λ (x : Own). x.leaves) (served-if s o made o.task) ∙ ap (served s.leaves o made) task ∙ served-same s.leaves o p made p.task join
 
-  installs_on : (s : BrickState) (o : OpenOrder) (made : Leaf) → o.task ≡ p.task → o.phase ≡ p.phase → o.copied ≡ p.copied → p.phase ≡ Installing made
+  installs_on : (s : BrickState) (o : OpenOrder) (made : Leaf) → o.task ≡ p.task → o.phase ≡ p.phase → o.copied ≡ p.copied → o.leaf ≡ p.leaf
+      → p.phase ≡ Installing made
       → o.waiting ≡ without p.waiting from → IsAnswer p l → Same p o → Goes s.leaves (order.installs_on s o made)
-  installs_on s o made task phase copied installing waiting answer same =
+  installs_on s o made task phase copied leaf installing waiting answer same =
       goes-when s.leaves (is_none_left o.waiting)
       (λ e. installed made installing (sym (ap is_none_left waiting) ∙ e) answer refl (finishes s o made task))
-      (λ e. goes_on o refl same phase copied)
+      (λ e. goes_on o refl same phase copied leaf refl)
 
   abbrev pub without_it : OpenOrder
   without_it = record p { waiting = without p.waiting from }
@@ -155,41 +162,41 @@ module _ (p : OpenOrder) (join : is_join p.task ≡ true) (from : NodeNo) (l : L
   installed_in s Leasing e answer = ended refl refl
   installed_in s (Copying source) e answer = ended refl refl
   installed_in s (Installing made) e answer =
-      installs_on (record s { order = None }) without_it made refl refl refl e refl answer (record { number = refl; name = refl; granted = λ n k. k })
+      installs_on (record s { order = None }) without_it made refl refl refl refl e refl answer (record { number = refl; name = refl; granted = λ n k. k })
 
   -- it copied
   installs_from : (s v : BrickState) (o : OpenOrder) (leaf : Leaf) (nodes : List NodeNo) → o.task ≡ p.task → p.phase ≡ Copying from → IsPart p l
-      → p.leaf ≡ Some leaf → o.granted ≡ p.granted → v.number ≡ number → v.known ≡ known → without (order.parting v o leaf) v.number ≡ nodes
+      → o.leaf ≡ p.leaf → p.leaf ≡ Some leaf → o.granted ≡ p.granted → v.number ≡ number → v.known ≡ known → without (order.parting v o leaf) v.number ≡ nodes
       → Same p o → Goes s.leaves (order.installs_from s o (order.made_leaf v o leaf o.task) nodes)
-  installs_from s v o leaf [] task phase part fixed gave number_is known_is none same =
+  installs_from s v o leaf [] task phase part leaf_is fixed gave number_is known_is none same =
       at_once leaf v o phase part fixed gave number_is known_is none refl
       (finishes s o (order.made_leaf v o leaf o.task) task ∙ ap (λ t. served s.leaves p (order.made_leaf v o leaf t) p.task) task)
-  installs_from s v o leaf (n ∷ ns) task phase part fixed gave number_is known_is some same =
+  installs_from s v o leaf (n ∷ ns) task phase part leaf_is fixed gave number_is known_is some same =
       copies (record o { waiting = n ∷ ns; phase = Installing (order.made_leaf v o leaf o.task) }) refl
-      (record { number = same.number; name = same.name; granted = same.granted }) phase part
+      (record { number = same.number; name = same.name; granted = same.granted }) phase part leaf_is refl
 
-  copied_all : (s : BrickState) (o : OpenOrder) (leaf : Option Leaf) → o.task ≡ p.task → p.phase ≡ Copying from → IsPart p l → p.leaf ≡ leaf
-      → o.granted ≡ p.granted → s.number ≡ number → s.known ≡ known → Same p o → Goes s.leaves (order.copied_all s o leaf)
-  copied_all s o None task phase part fixed gave number_is known_is same = copies o refl same phase part
-  copied_all s o (Some leaf) task phase part fixed gave number_is known_is same =
-      installs_from (record s { made = s.made + 1 }) s o leaf (without (order.parting s o leaf) s.number) task phase part fixed gave number_is known_is refl
-      same
+  copied_all : (s : BrickState) (o : OpenOrder) (leaf : Option Leaf) → o.task ≡ p.task → p.phase ≡ Copying from → IsPart p l
+      → o.leaf ≡ p.leaf → p.leaf ≡ leaf → o.granted ≡ p.granted → s.number ≡ number → s.known ≡ known → Same p o → Goes s.leaves (order.copied_all s o leaf)
+  copied_all s o None task phase part leaf_is fixed gave number_is known_is same = copies o refl same phase part leaf_is refl
+  copied_all s o (Some leaf) task phase part leaf_is fixed gave number_is known_is same =
+      installs_from (record s { made = s.made + 1 }) s o leaf (without (order.parting s o leaf) s.number) task phase part leaf_is fixed gave number_is
+      known_is refl same
 
   pub copied_on : (s : BrickState) (o : OpenOrder) (source : NodeNo) (last : Bool) → o.task ≡ p.task → p.phase ≡ Copying from → IsPart p l
       → o.leaf ≡ p.leaf → o.granted ≡ p.granted → s.number ≡ number → s.known ≡ known → Same p o → Goes s.leaves (order.copied_on s o source last)
   copied_on s o source true task phase part leaf gave number_is known_is same =
-      copied_all s o o.leaf task phase part (sym leaf) gave number_is known_is same
-  copied_on s o source false task phase part leaf gave number_is known_is same = copies o refl same phase part
+      copied_all s o o.leaf task phase part leaf (sym leaf) gave number_is known_is same
+  copied_on s o source false task phase part leaf gave number_is known_is same = copies o refl same phase part leaf refl
 
   -- a notice
-  copies_again : (s : BrickState) (leaf : Option Leaf) → Goes s.leaves (notices.copies_again s p leaf)
-  copies_again s None = goes_on p refl (same-order p) refl refl
-  copies_again s (Some leaf) = copies_from s p (order.sources s p leaf) (same-order p)
+  copies_again : (s : BrickState) (leaf : Option Leaf) → p.leaf ≡ leaf → Goes s.leaves (notices.copies_again s p leaf)
+  copies_again s None fixed = goes_on p refl (same-order p) refl refl refl refl
+  copies_again s (Some leaf) fixed = copies_from s p leaf (order.sources s p leaf) fixed (same-order p)
 
   pub order_goes : (s : BrickState) (phase : OrderPhase) → p.phase ≡ phase → IsAnswer p l → Goes s.leaves (notices.order_goes s p from phase)
   order_goes s Leasing e answer =
       goes-when s.leaves (notices.is_lost p from p.task) (λ f. ends s p answered.NoSource)
       (λ f. leases_on s without_it refl (ap order.is_leasing e) (record { number = refl; name = refl; granted = λ n k. k }))
-  order_goes s (Copying source) e answer = copies_again s p.leaf
+  order_goes s (Copying source) e answer = copies_again s p.leaf refl
   order_goes s (Installing made) e answer =
-      installs_on s without_it made refl refl refl e refl answer (record { number = refl; name = refl; granted = λ n k. k })
+      installs_on s without_it made refl refl refl refl e refl answer (record { number = refl; name = refl; granted = λ n k. k })

@@ -4,3 +4,4 @@ pub mod Turned
 pub mod Changes
 pub mod Joins
 pub mod JoinTurns
+pub mod Heard

@@ -47,7 +47,7 @@ pub data IsBound (n : Net) (j : ℕ) (o : OpenOrder) : OrderPhase → Type 0 whe
   installs : (made : Leaf) → IsBound n j o (Installing made)
   lives : (source : ℕ) (t : BrickState) → n.node source ≡ a_brick t → t.stopped ≡ false → IsBound n j o (Copying source)
   copied : (source : ℕ) → (o.copied ≡ [] → ⊥) → IsBound n j o (Copying source)
-  comes : (source : ℕ) → has_part o.number (n.channel source j) ≡ true → IsBound n j o (Copying source)
+  comes : (source : ℕ) (t : BrickState) → n.node source ≡ a_brick t → has_part o.number (n.channel source j) ≡ true → IsBound n j o (Copying source)
 
 -- a live brick with a join that is bound
 pub record Bound (n : Net) (j : ℕ) (s : BrickState) (o : OpenOrder) : Type 0 where

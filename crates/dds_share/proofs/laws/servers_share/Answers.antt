@@ -1,7 +1,8 @@
 use Rattle.dds_share.proofs.Changes as changes
+use Rattle.dds_share.proofs.Heard as heard
 use Rattle.dds_share.proofs.JoinTurns as joins
 use Rattle.dds_share.proofs.Turned as turned
 use Rattle.dds_share.proofs.laws.servers_share.Goals as goal
 
 pub returns : goal.returns
-returns c = let x = turned.share-turned in let y = changes.split in let z = joins.order-still in ?
+returns c = let x = turned.share-turned in let y = changes.split in let z = joins.order-opens in let w = heard.part-copies in ?
