@@ -11,7 +11,6 @@ use Rattle.dds_letters.specs.declared.letter.Letter.{Letter}
 use Rattle.dds_letters.specs.declared.letter.Letter.TheVariants as letter
 use Rattle.dds_locks.specs.Leases.{is_given}
 use Rattle.dds_order_talk.proofs.Lines.{granted-leaf}
-use Rattle.dds_order_talk.proofs.Members.{or-parts}
 use Rattle.dds_order_talk.proofs.Moves.{Tells}
 use Rattle.dds_order_talk.specs.Seen.{BrickTalk, New, Own, phase_view, rests, say_of, says, view, with_leaf}
 use Rattle.dds_order_talk.specs.Table.{Ask, Say, Talk, Talks, View}
@@ -24,6 +23,7 @@ use Rattle.dds_states.specs.declared.brick_state.BrickState.{BrickState}
 use Rattle.dds_states.specs.declared.brick_state.OpenOrder.{OpenOrder}
 use Rattle.dds_states.specs.declared.brick_state.OrderPhase.{OrderPhase}
 use Rattle.dds_states.specs.declared.brick_state.OrderPhase.TheVariants.{Leasing, Copying, Installing}
+use Rattle.dds_share.proofs.Parts.{or-parts}
 use Rattle.dds_share.proofs.Together.{has_part, is_part}
 
 -- What a conversation says: a member that isn't waited for any more, or says so, has what the order made; and a part of what an order
@@ -42,6 +42,14 @@ both-live : {x : Name} {Own New : Tells} {a c : Bool} {v : View} {o : List Ask} 
 both-live e f (live h) = h
 both-live e f (lost cut h) = cc
 both-live e f gone = cc
+
+as-view : {x : Name} {Own New : Tells} {v w : View} {out : List Ask} {given : Bool} {back : List Say} → v ≡ w → Talk x Own New v out given back
+    → Talk x Own New w out given back
+as-view {x = x} {Own = Own} {New = New} {out = out} {given = given} {back = back} e h = subst (λ u. Talk x Own New u out given back) e h
+
+as-back : {x : Name} {Own New : Tells} {v : View} {out : List Ask} {given : Bool} {back said : List Say} → back ≡ said → Talk x Own New v out given back
+    → Talk x Own New v out given said
+as-back {x = x} {Own = Own} {New = New} {v = v} {out = out} {given = given} e h = subst (λ b. Talk x Own New v out given b) e h
 
 -- nobody is waited for
 done-new : {x : Name} {Own New : Tells} {out : List Ask} {given : Bool} {back : List Say} (m : ℕ) (made : Leaf) (w g : Bool) (q : Option Leaf) → w ≡ false
@@ -76,7 +84,7 @@ module _ (j m : ℕ) (s t : BrickState) (o : OpenOrder) (made : Leaf) (out back 
   heard-new fixed gave over =
       let it = both-live (ap not lives) (ap not also) (h unknown) in
       done-new m made (has o.waiting m) (has o.granted m) o.leaf over gave fixed
-      (subst (λ v. Talk o.name (Own t.leaves o.name) (New t.leaves o.name) v _ _ _) (of-name o s.order m (Installing made) is phase) it)
+      (as-view (of-name o s.order m (Installing made) is phase) it)
 
   first-says : (number : ℕ) (name : Name) (rest : List Letter) → o.number ≡ number → back ≡ letter.Installed number name ∷ rest
       → says s.order o.name back ≡ installed ∷ says s.order o.name rest
@@ -88,18 +96,18 @@ module _ (j m : ℕ) (s t : BrickState) (o : OpenOrder) (made : Leaf) (out back 
   pub says-new : (number : ℕ) (name : Name) (rest : List Letter) → o.number ≡ number → back ≡ letter.Installed number name ∷ rest → New t.leaves o.name made
   says-new number name rest e f =
       let it = both-live (ap not lives) (ap not also) (h unknown) in
-      let said = subst (λ b. Talk o.name (Own t.leaves o.name) (New t.leaves o.name) (view rests s.order o.name m) _ _ b) (first-says number name rest e f) it in
+      let said = as-back (first-says number name rest e f) it in
       due-new m made (has o.waiting m) (has o.granted m) o.leaf
       (subst (IsDue (New t.leaves o.name)) (of-name o s.order m (Installing made) is phase) (due-says said))
 
 -- parts
-is_said : Say → Bool
+abbrev is_said : Say → Bool
 is_said part = true
 is_said (granted leaf) = false
 is_said refused = false
 is_said installed = false
 
-some_said : List Say → Bool
+abbrev some_said : List Say → Bool
 some_said [] = false
 some_said (b ∷ bs) = is_said b || some_said bs
 
@@ -110,35 +118,42 @@ said-append : (xs ys : List Say) → some_said ys ≡ true → some_said (xs ++ 
 said-append [] ys h = h
 said-append (x ∷ xs) ys h = or-right (is_said x) (some_said (xs ++ ys)) (said-append xs ys h)
 
+first-if : (c : Bool) (xs ys : List Say) → (some_said xs ≡ true → some_said (xs ++ ys) ≡ true) → (c || some_said xs) ≡ true
+    → (c || some_said (xs ++ ys)) ≡ true
+first-if true xs ys f h = refl
+first-if false xs ys f h = f h
+
 said-first : (xs ys : List Say) → some_said xs ≡ true → some_said (xs ++ ys) ≡ true
 said-first [] ys h = cc
-said-first (x ∷ xs) ys h = first-if (is_said x) xs ys h
+said-first (x ∷ xs) ys h = first-if (is_said x) xs ys (said-first xs ys) h
+
+no-said : {v : View} → false ≡ true → IsCopied v
+no-said e = absurd (not e)
   where
-    first-if : (c : Bool) (xs ys : List Say) → (c || some_said xs) ≡ true → (c || some_said (xs ++ ys)) ≡ true
-    first-if true xs ys h = refl
-    first-if false xs ys h = said-first xs ys h
+    not : false ≡ true → ⊥
+    not e = cc
 
 copied-view : {x : Name} {Own New : Tells} {v : View} {out : List Ask} {given : Bool} {back : List Say} → Talk x Own New v out given back
     → some_said back ≡ true → IsCopied v
-copied-view (off k) e = cc
-copied-view (asked q k) e = cc
-copied-view (said_yes own fits) e = cc
-copied-view said_no e = cc
-copied-view (first own) e = cc
-copied-view (has_it own) e = cc
-copied-view (copies own) e = cc
+copied-view (off k) e = no-said e
+copied-view (asked q k) e = no-said e
+copied-view (said_yes own fits) e = no-said e
+copied-view said_no e = no-said e
+copied-view (first own) e = no-said e
+copied-view (has_it own) e = no-said e
+copied-view (copies own) e = no-said e
 copied-view (copied own) e = is_copied
-copied-view (dropped own) e = cc
-copied-view (heard own) e = cc
-copied-view (told own) e = cc
-copied-view (said_so new) e = cc
-copied-view (done new) e = cc
+copied-view (dropped own) e = no-said e
+copied-view (heard own) e = no-said e
+copied-view (told own) e = no-said e
+copied-view (said_so new) e = no-said e
+copied-view (done new) e = no-said e
 
 copied-talks : {x : Name} {Own New : Tells} {a c : Bool} {v : View} {out : List Ask} {given : Bool} {back : List Say} → a ≡ true
     → Talks x Own New a c v out given back → some_said back ≡ true → IsCopied v
 copied-talks e (live h) f = copied-view h f
 copied-talks {back = back} e (lost cut h) f = copied-view h (said-first back cut f)
-copied-talks e gone f = cc
+copied-talks e gone f = no-said e
 
 one-said : (o : OpenOrder) (l : Letter) → is_part o.number l ≡ true → some_said (say_of (Some o) o.name l) ≡ true
 one-said o (letter.CopyPart k last pairs) h =

@@ -54,14 +54,21 @@ use Rattle.dds_share.proofs.Joins.{IsAnswer, JoinGoes, at_once, begins, copies, 
 
 -- Each letter at a brick with an open join.
 
--- another letter leaves the order alone, and may have the brick take a leaf; or the order has its row
-pub data JoinTurn (s : BrickState) (p : OpenOrder) (from : NodeNo) (l : Letter) (t : BrickTurn) : Type 0 where
-  rests : t.state.order ≡ Some p → TakeOnce s (letter_leaf l) t → JoinTurn s p from l t
-  goes : JoinGoes s.number s.known s.leaves p from l t → JoinTurn s p from l t
+-- a letter about an open order of the brick, or a notice
+pub data IsOfOrder : Letter → Type 0 where
+  grants : (number : ℕ) (leaf : Leaf) → IsOfOrder (letter.Granted number leaf)
+  refuses : (number : ℕ) (why : Refusal) → IsOfOrder (letter.LeaseRefused number why)
+  copies_on : (number : ℕ) (last : Bool) (pairs : List Pair) → IsOfOrder (letter.CopyPart number last pairs)
+  says_so : (number : ℕ) (name : Name) → IsOfOrder (letter.Installed number name)
+  tells : IsOfOrder letter.Notice
 
-still : (s : BrickState) (p : OpenOrder) (from : NodeNo) (l : Letter) (t : BrickTurn) → s.order ≡ Some p → t.state.order ≡ s.order
-    → t.state.leaves ≡ s.leaves → JoinTurn s p from l t
-still s p from l t there e f = rests (e ∙ there) (stays f)
+-- another letter leaves the order alone, and may have the brick take a leaf
+pub data Rests (s : BrickState) (l : Letter) (t : BrickTurn) : Type 0 where
+  rests : t.state.order ≡ s.order → TakeOnce s (letter_leaf l) t → Rests s l t
+  of_order : IsOfOrder l → Rests s l t
+
+still : (s : BrickState) (l : Letter) (t : BrickTurn) → t.state.order ≡ s.order → t.state.leaves ≡ s.leaves → Rests s l t
+still s l t e f = rests e (stays f)
 
 order-if : (c : Bool) (s : BrickState) (t u : BrickTurn) → t.state.order ≡ s.order → u.state.order ≡ s.order
     → (if c then t else u).state.order ≡ s.order
@@ -73,15 +80,14 @@ leaves-if : (c : Bool) (s : BrickState) (t u : BrickTurn) → t.state.leaves ≡
 leaves-if true s t u e f = e
 leaves-if false s t u e f = f
 
-got : (s : BrickState) (p : OpenOrder) (from : NodeNo) (l : Letter) (txn : Txn) (key : ℕ) (r : Option Refusal) → s.order ≡ Some p
-    → JoinTurn s p from l (calls.got s from txn key r)
-got s p from l txn key None there = still s p from l _ there refl refl
-got s p from l txn key (Some why) there = still s p from l _ there refl refl
+got : (s : BrickState) (from : NodeNo) (l : Letter) (txn : Txn) (key : ℕ) (r : Option Refusal) → Rests s l (calls.got s from txn key r)
+got s from l txn key None = still s l _ refl refl
+got s from l txn key (Some why) = still s l _ refl refl
 
-voted : (s u : BrickState) (p : OpenOrder) (from : NodeNo) (l : Letter) (q : Pending) (d : Option Denial) → s.order ≡ Some p → u.order ≡ s.order
-    → u.leaves ≡ s.leaves → JoinTurn s p from l (calls.voted u from q d)
-voted s u p from l q None there e f = still s p from l _ there e f
-voted s u p from l q (Some d) there e f = still s p from l _ there e f
+voted : (s u : BrickState) (from : NodeNo) (l : Letter) (q : Pending) (d : Option Denial) → u.order ≡ s.order → u.leaves ≡ s.leaves
+    → Rests s l (calls.voted u from q d)
+voted s u from l q None e f = still s l _ e f
+voted s u from l q (Some d) e f = still s l _ e f
 
 took-if : (c : Bool) (s u : BrickState) → u.order ≡ s.order → (if c then u else s).order ≡ s.order
 took-if true s u e = e
@@ -112,8 +118,43 @@ installed_over : (s : BrickState) (from : NodeNo) (number : ℕ) (leaf : Leaf) (
 installed_over s from number leaf None = refl
 installed_over s from number leaf (Some mine) = order-if (is_some (successor mine leaf)) s _ _ refl refl
 
-plainly : (s : BrickState) (p : OpenOrder) (from : NodeNo) (l : Letter) (t : BrickTurn) → s.order ≡ Some p → Plain (leafing s) t → JoinTurn s p from l t
-plainly s p from l t there h = still s p from l t there (ap (λ (x : Leafing). x.order) h.same) (ap (λ (x : Leafing). x.leaves) h.same)
+plainly : (s : BrickState) (l : Letter) (t : BrickTurn) → Plain (leafing s) t → Rests s l t
+plainly s l t h = still s l t (ap (λ (x : Leafing). x.order) h.same) (ap (λ (x : Leafing). x.leaves) h.same)
+
+pub letter-rests : (s : BrickState) (from : NodeNo) (l : Letter) → Rests s l (live_brick_turn s from l)
+letter-rests s from (letter.Get txn caller call key name stamp) = got s from _ txn key (get_refusal s key name stamp)
+letter-rests s from (letter.Prepare txn caller call below name stamp list op) =
+    voted s (calls.trim s txn.library below) from _ (record { txn = txn; caller = caller; call = call; op = op; list = list })
+    (update_denial s op name stamp) refl refl
+letter-rests s from (letter.Commit txn) = plainly s _ _ (plain.commit_row s from txn)
+letter-rests s from (letter.Abort txn) = plainly s _ _ (plain.abort_row s from txn)
+letter-rests s from (letter.Push leaf) =
+    rests (took s leaf (own_leaf s.leaves leaf.name)) (once.took s leaf (takes.push_row s leaf) (own_leaf s.leaves leaf.name) refl refl)
+letter-rests s from (letter.Help txn list) = plainly s _ _ (plain.help_row s from txn list)
+letter-rests s from (letter.Query txn list) = plainly s _ _ (plain.query_row s from txn list)
+letter-rests s from (letter.Status txn status) = plainly s _ _ (plain.all_hear s from (news.Told txn status))
+letter-rests s from (letter.Outcome txn commit) = plainly s _ _ (plain.outcome_row s txn commit)
+letter-rests s from (letter.Lease number what) = rests (lease_row s from number what) (once.lease_row s from number what)
+letter-rests s from (letter.Granted number leaf) = of_order (grants number leaf)
+letter-rests s from (letter.LeaseRefused number why) = of_order (refuses number why)
+letter-rests s from (letter.CopyAsk number name place) =
+    let c = is_given s.locks.leases name from && is_some (get s.leaves name) in
+    still s _ _ (order-if c s _ _ refl refl) (leaves-if c s _ _ refl refl)
+letter-rests s from (letter.CopyPart number last pairs) = of_order (copies_on number last pairs)
+letter-rests s from (letter.Install number leaf) =
+    let c = is_some (lease_of s.locks.leases leaf.name from) && has leaf.list s.number in
+    rests (order-if c s _ _ (installed_over s from number leaf (own_leaf s.leaves leaf.name)) refl) (once.install_row s from number leaf)
+letter-rests s from (letter.Installed number name) = of_order (says_so number name)
+letter-rests s from letter.Notice = of_order tells
+letter-rests s from other = still s _ _ refl refl
+
+-- the parts of a notice behind the order's
+pub notice-same : (s : BrickState) (y : NodeNo) → leafing (notices.notice_row s y).state ≡ leafing (notices.order_part (notices.learns s y) y).state
+notice-same s y =
+    let b = (notices.order_part (notices.learns s y) y).state in
+    let c = (notices.resolving_part b y).state in
+    let d = (notices.deferred_part c).state in
+    (plain.pending_part d y).same ∙ (plain.deferred_part c).same ∙ (plain.all_hear b y news.Stopped).same
 
 module _ (s : BrickState) (p : OpenOrder) (there : s.order ≡ Some p) (join : is_join p.task ≡ true) (from : NodeNo) where
   abbrev Goes : Letter → BrickTurn → Type 0
@@ -147,11 +188,7 @@ module _ (s : BrickState) (p : OpenOrder) (there : s.order ≡ Some p) (join : i
   notice_row : Goes letter.Notice (notices.notice_row s from)
   notice_row =
       let a = notices.learns s from in
-      let b = (notices.order_part a from).state in
-      let c = (notices.resolving_part b from).state in
-      let d = (notices.deferred_part c).state in
-      let same : leafing (notices.pending_part d from).state ≡ leafing b =
-      (plain.pending_part d from).same ∙ (plain.deferred_part c).same ∙ (plain.all_hear b from news.Stopped).same in
+      let same = notice-same s from in
       like (ap (λ (x : Leafing). x.order) same) (ap (λ (x : Leafing). x.leaves) same)
       (if-keeps (Goes letter.Notice) (notices.concerns_some from a.order) _ _
       (λ e. with-order-of (joins.order_goes p join from letter.Notice s.number s.known (record a { order = None }) p.phase refl stops))
@@ -170,45 +207,25 @@ module _ (s : BrickState) (p : OpenOrder) (there : s.order ≡ Some p) (join : i
           → Goes letter.Notice (order.with_order (notices.learns s from) (λ t o. notices.order_goes t o from o.phase) s.order)
       with-order-of h = subst (λ q. Goes letter.Notice (order.with_order (notices.learns s from) (λ t o. notices.order_goes t o from o.phase) q)) (sym there) h
 
-  pub letter-goes : (l : Letter) → JoinTurn s p from l (live_brick_turn s from l)
-  letter-goes (letter.Get txn caller call key name stamp) = got s p from _ txn key (get_refusal s key name stamp) there
-  letter-goes (letter.Prepare txn caller call below name stamp list op) =
-      voted s (calls.trim s txn.library below) p from _ (record { txn = txn; caller = caller; call = call; op = op; list = list })
-      (update_denial s op name stamp) there refl refl
-  letter-goes (letter.Commit txn) = plainly s p from _ _ there (plain.commit_row s from txn)
-  letter-goes (letter.Abort txn) = plainly s p from _ _ there (plain.abort_row s from txn)
-  letter-goes (letter.Push leaf) =
-      rests (took s leaf (own_leaf s.leaves leaf.name) ∙ there) (once.took s leaf (takes.push_row s leaf) (own_leaf s.leaves leaf.name) refl refl)
-  letter-goes (letter.Help txn list) = plainly s p from _ _ there (plain.help_row s from txn list)
-  letter-goes (letter.Query txn list) = plainly s p from _ _ there (plain.query_row s from txn list)
-  letter-goes (letter.Status txn status) = plainly s p from _ _ there (plain.all_hear s from (news.Told txn status))
-  letter-goes (letter.Outcome txn commit) = plainly s p from _ _ there (plain.outcome_row s txn commit)
-  letter-goes (letter.Lease number what) = rests (lease_row s from number what ∙ there) (once.lease_row s from number what)
-  letter-goes (letter.Granted number leaf) =
-      goes (at-order number _ (order.takes_grant s.number leaf) (λ t o. order.grants t (order.with_grant o from) from leaf o.task)
-      (λ e h. joins.granted p join from _ s.number s.known s from leaf h))
-  letter-goes (letter.LeaseRefused number why) =
-      goes (at-order number _ (λ o. order.is_leasing o.phase) (λ t o. order.ends t o (answered.Refused (order.met_of why from)))
-      (λ e h. joins.ends p join from _ s.number s.known (record s { order = None }) p (answered.Refused (order.met_of why from))))
-  letter-goes (letter.CopyAsk number name place) =
-      let c = is_given s.locks.leases name from && is_some (get s.leaves name) in
-      still s p from _ _ there (order-if c s _ _ refl refl) (leaves-if c s _ _ refl refl)
-  letter-goes (letter.CopyPart number last pairs) =
-      goes (at-order number _ (λ o. order.is_source from o.phase && order.fits o pairs)
+  pub letter-goes : (l : Letter) → IsOfOrder l → Goes l (live_brick_turn s from l)
+  letter-goes _ (grants number leaf) =
+      at-order number _ (order.takes_grant s.number leaf) (λ t o. order.grants t (order.with_grant o from) from leaf o.task)
+      (λ e h. joins.granted p join from _ s.number s.known s from leaf h)
+  letter-goes _ (refuses number why) =
+      at-order number _ (λ o. order.is_leasing o.phase) (λ t o. order.ends t o (answered.Refused (order.met_of why from)))
+      (λ e h. joins.ends p join from _ s.number s.known (record s { order = None }) p (answered.Refused (order.met_of why from)))
+  letter-goes _ (copies_on number last pairs) =
+      at-order number _ (λ o. order.is_source from o.phase && order.fits o pairs)
       (λ t o. order.copied_on t (record o { copied = o.copied ++ pairs }) from last)
       (λ e h. subst (λ i. Goes (letter.CopyPart i last pairs) (order.copied_on (record s { order = None }) (record p { copied = p.copied ++ pairs }) from last))
       e (joins.copied_on p join from _ s.number s.known (record s { order = None }) (record p { copied = p.copied ++ pairs }) from last refl
       (source-is from p.phase (and_parts (order.is_source from p.phase) (order.fits p pairs) h).0) (is_part last pairs) refl refl refl refl
-      (record { number = refl; name = refl; granted = λ n k. k }))))
-  letter-goes (letter.Install number leaf) =
-      let c = is_some (lease_of s.locks.leases leaf.name from) && has leaf.list s.number in
-      rests (order-if c s _ _ (installed_over s from number leaf (own_leaf s.leaves leaf.name)) refl ∙ there) (once.install_row s from number leaf)
-  letter-goes (letter.Installed number name) =
-      goes (at-order number _ (λ o. order.is_installing o.phase) (λ t o. order.installed_in t (record o { waiting = without o.waiting from }) o.phase)
+      (record { number = refl; name = refl; granted = λ n k. k })))
+  letter-goes _ (says_so number name) =
+      at-order number _ (λ o. order.is_installing o.phase) (λ t o. order.installed_in t (record o { waiting = without o.waiting from }) o.phase)
       (λ e h. subst (λ i. Goes (letter.Installed i name) (order.installed_in (record s { order = None }) (record p { waiting = without p.waiting from }) p.phase))
-      e (joins.installed_in p join from _ s.number s.known s p.phase refl (installs name))))
-  letter-goes letter.Notice = goes notice_row
-  letter-goes other = still s p from _ _ there refl refl
+      e (joins.installed_in p join from _ s.number s.known s p.phase refl (installs name)))
+  letter-goes _ tells = notice_row
 
 -- an order: the open one stays
 refused : (s : BrickState) (c : Bool) (q : Option OpenOrder) (p : OpenOrder) (t : BrickTurn) → q ≡ Some p

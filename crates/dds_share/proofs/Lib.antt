@@ -4,4 +4,8 @@ pub mod Turned
 pub mod Changes
 pub mod Joins
 pub mod JoinTurns
+pub mod Tasks
+pub mod Parts
 pub mod Heard
+pub mod Facts
+pub mod Sources
