@@ -69,7 +69,7 @@ module _ (z : Sizes) (n : Net) (g : AreAll z n) where
   pub asked-of : (k : ℕ) (s : BrickState) (o : OpenOrder) → n.node k ≡ a_brick s → s.order ≡ Some o → AskedOk k s.orders o
   asked-of k s o here e = let ok : within.BrickOk k s = subst (within.NodeOk k) here (g.low.within.nodes k) in ok.is.order o e
 
-  inside-of : (k : ℕ) (s : BrickState) → n.node k ≡ a_brick s → is_in z k ≡ true
+  pub inside-of : (k : ℕ) (s : BrickState) → n.node k ≡ a_brick s → is_in z k ≡ true
   inside-of k s here = elim (cases_Bool (is_in z k)) [
     | inl e ↦ e
     | inr e ↦ let no : nowhere ≡ a_brick s = sym (g.built.outside k e) ∙ here in cc

@@ -9,3 +9,6 @@ pub mod Parts
 pub mod Heard
 pub mod Facts
 pub mod Sources
+pub mod Bounds
+pub mod Ends
+pub mod Keeps

@@ -12,7 +12,7 @@ use Rattle.dds_net.specs.Net.{Net, Sizes, a_brick}
 use Rattle.dds_order_rows.specs.OwnOrder as order
 use Rattle.dds_order_talk.proofs.Holds.{HasOf, granted-holds}
 use Rattle.dds_order_talk.specs.Seen.{New, Own}
-use Rattle.dds_orders.proofs.Asked.{Answer, Member, gave, gone, granted, is_asked, itself, stopped, waits}
+use Rattle.dds_orders.proofs.Asked.{Answer, Asking, Member, gave, gone, granted, is_asked, itself, stopped, waits}
 use Rattle.dds_orders.proofs.Leased.{In}
 use Rattle.dds_orders.proofs.Standing.{order-is}
 use Rattle.dds_states.specs.declared.brick_state.BrickState.{BrickState}
@@ -27,14 +27,14 @@ use Rattle.dds_share.proofs.Turned.{lives-not}
 -- A join that copies from a live member: this one has the order's leaf and gave its lease, so all that serve a key of the join granted it,
 -- and no other bound join has a key in common with it.
 
-some-leaf : (q : Option Leaf) → is_some q ≡ true → (leaf : Leaf) × (q ≡ Some leaf)
+pub some-leaf : (q : Option Leaf) → is_some q ≡ true → (leaf : Leaf) × (q ≡ Some leaf)
 some-leaf None h = cc
 some-leaf (Some leaf) h = (leaf, refl)
 
 copies-not : (o : OpenOrder) (source : ℕ) → o.phase ≡ Copying source → o.phase ≡ Leasing → ⊥
 copies-not o source e f = let no : Copying source ≡ Leasing = sym e ∙ f in cc
 
-not-leasing : (n : Net) (j : ℕ) (o : OpenOrder) (p : OrderPhase) → IsBound n j o p → p ≡ Leasing → ⊥
+pub not-leasing : (n : Net) (j : ℕ) (o : OpenOrder) (p : OrderPhase) → IsBound n j o p → p ≡ Leasing → ⊥
 not-leasing n j o p (installs made) e = cc
 not-leasing n j o p (lives source t here live) e = cc
 not-leasing n j o p (copied source ne) e = cc
@@ -76,6 +76,7 @@ module _ (z : Sizes) (n : Net) (g : AreAll z n) (j : ℕ) (s : BrickState) (o : 
       let leaf = some-leaf o.leaf h.fixed in
       member (asking.members leaf.0 leaf.1 b (share source b spot t r leaf.0 other (its-leaf leaf.0 leaf.1 spot over) serves))
     where
+      asking : Asking j s.known o
       asking = asking-of z n g j s o h.here h.there
 
       known-not : {X : Type 0} → has_node s.known b ≡ true → X

@@ -117,13 +117,18 @@ module _ (c : Bool) where
 
   of-order : (s : BrickState) (from : NodeNo) (l : Letter) → IsOfOrder l → AllOf c s.order → Stays c (live_brick_turn s from l)
   of-order s from _ (grants number leaf) h =
-      at-order s number (order.takes_grant s.number leaf) _ h (λ o j. granting (record s { order = None }) (order.with_grant o from) from leaf o.task j)
-  of-order s from _ (refuses number why) h = at-order s number (λ o. order.is_leasing o.phase) _ h (λ o j. none-open c _ refl)
+      at-order s number (order.takes_grant s.number leaf) (λ t o. order.grants t (order.with_grant o from) from leaf o.task) h
+      (λ o j. granting (record s { order = None }) (order.with_grant o from) from leaf o.task j)
+  of-order s from _ (refuses number why) h =
+      at-order s number (λ o. order.is_leasing o.phase) (λ t o. order.ends t o (answered.Refused (order.met_of why from))) h
+      (λ o j. none-open c (order.ends (record s { order = None }) o (answered.Refused (order.met_of why from))) refl)
   of-order s from _ (copies_on number last pairs) h =
-      at-order s number (λ o. order.is_source from o.phase && order.fits o pairs) _ h
+      at-order s number (λ o. order.is_source from o.phase && order.fits o pairs)
+      (λ t o. order.copied_on t (record o { copied = o.copied ++ pairs }) from last) h
       (λ o j. copied_on (record s { order = None }) (record o { copied = o.copied ++ pairs }) from last j)
   of-order s from _ (says_so number name) h =
-      at-order s number (λ o. order.is_installing o.phase) _ h
+      at-order s number (λ o. order.is_installing o.phase)
+      (λ t o. order.installed_in t (record o { waiting = without o.waiting from }) o.phase) h
       (λ o j. installed_in (record s { order = None }) (record o { waiting = without o.waiting from }) o.phase refl j)
   of-order s from _ tells h =
       let a = notices.learns s from in

@@ -1,4 +1,4 @@
-use Rattle.std.specs.Prelude.{ℕ, ◌≡◌, ◌==◌, ◌||◌, Bool, true, false, List, [], ◌∷◌, Some}
+use Rattle.std.specs.Prelude.{ℕ, ◌≡◌, ◌==◌, ◌||◌, Bool, true, false, List, [], ◌∷◌, Some, is_some}
 use Rattle.dds_base.specs.BrickList.{has}
 use Rattle.dds_base.specs.Name.{Name}
 use Rattle.dds_base.specs.declared.leaf.Leaf.{Leaf}
@@ -6,6 +6,7 @@ use Rattle.dds_brick_rows.specs.Refusal.{is_join}
 use Rattle.dds_letters.specs.declared.letter.Letter.{Letter}
 use Rattle.dds_letters.specs.declared.letter.Letter.TheVariants as letter
 use Rattle.dds_net.specs.Net.{Net, a_brick}
+use Rattle.dds_order_rows.specs.OwnOrder.{is_leasing}
 use Rattle.dds_orders.proofs.Leased.{In}
 use Rattle.dds_states.specs.declared.brick_state.BrickState.{BrickState}
 use Rattle.dds_states.specs.declared.brick_state.OpenOrder.{OpenOrder}
@@ -23,6 +24,7 @@ use Rattle.dds_share.proofs.Over.{IsOver}
 -- | bound join's name granted the join its lease                   |         | by `share` that leaf lists all others, and all were asked; such     |
 -- |                                                                |         | bricks appear where a join ends alone                               |
 -- | `apart`: bound joins of two bricks have no spot in common      | `granted` | what begins to copy from a live member: it has given its leases   |
+-- | `fixed`: a join that copies or installs has a leaf             | `granted` | what begins to copy                                                 |
 --
 -- A join is bound from where it copies from a live member until it ends: it installs, or it copies from a member that lives, or it has
 -- copied something, or a part of what it copies is on its way. One that copies from a member that had stopped before it answered isn't:
@@ -69,7 +71,13 @@ abbrev pub Apart : Net → Type 0
 Apart n =
     (j k : ℕ) (spot : Name) (s t : BrickState) (o p : OpenOrder) → Bound n j s o → Bound n k t p → (j ≡ k → ⊥) → In o.name spot → In p.name spot → ⊥
 
+abbrev pub Fixed : Net → Type 0
+Fixed n =
+    (j : ℕ) (s : BrickState) (o : OpenOrder) → n.node j ≡ a_brick s → s.stopped ≡ false → s.order ≡ Some o → is_join o.task ≡ true
+    → is_leasing o.phase ≡ false → is_some o.leaf ≡ true
+
 pub record AreTogether (n : Net) : Type 0 where
   pub share : Share n
   pub granted : Granted n
   pub apart : Apart n
+  pub fixed : Fixed n
