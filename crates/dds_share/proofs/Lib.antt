@@ -12,3 +12,7 @@ pub mod Sources
 pub mod Bounds
 pub mod Ends
 pub mod Keeps
+pub mod TurnFacts
+pub mod Events
+pub mod Openings
+pub mod Runs
