@@ -1,4 +1,4 @@
-use Rattle.std.proofs.Common.{◌≡◌, ℕ, ◌≤◌, inl, inr, Bool, true, false, Some, refl, sym, ap, ◌∙◌, subst}
+use Rattle.std.proofs.Common.{◌≡◌, ℕ, ◌≤◌, inl, inr, Bool, true, false, List, refl, sym, ap, ◌∙◌}
 use Rattle.std.proofs.lemmas.Bool.{both_ways, cases_eq}
 use Rattle.dds_base.specs.declared.op.Order.{Order}
 use Rattle.dds_cluster.specs.World.{emptied}
@@ -59,7 +59,7 @@ module _ (z : Sizes) (cs : List Caller) (n : Net) where
   told at c s f g after false live h =
       turned-keeps z n (moved z n (brick_told at c s)) at s (brick_input s c).state after h (told-turns z cs n at c s f live g h)
   told at c s f g after true dead h =
-      quiet (brick_told at c s) f (λ k t. λ is live. put-quiet n at k (a_brick (brick_input s c).state) t
+      quiet (brick_told at c s) f (λ k t is live. put-quiet n at k (a_brick (brick_input s c).state) t
       (λ e i. ap n.node e ∙ f.here ∙ sym (ap (λ (u : BrickTurn). a_brick u.state) (stopped-order s c dead)) ∙ i) is) h
 
   pub event-keeps : (e : Event) → z.bricks ≤ 64 → z.libraries ≤ 16 → Fits z cs n e → AreAll z n → AreAll z (moved z n e) → AreTogether n
