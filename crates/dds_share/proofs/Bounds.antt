@@ -1,4 +1,4 @@
-use Rattle.std.proofs.Common.{◌≡◌, ℕ, ◌==◌, ◌||◌, inl, inr, Bool, true, false, Some, None, List, [], ◌∷◌, refl, sym, ap, ◌∙◌, subst}
+use Rattle.std.proofs.Common.{◌≡◌, ℕ, inl, inr, Bool, true, false, Some, None, List, [], refl, sym, ap, ◌∙◌, subst}
 use Rattle.std.proofs.lemmas.Bool.{both_ways, cases_Bool, cases_eq, eq-eqb, ne_eqb}
 use Rattle.std.specs.Prelude.{is_some}
 use Rattle.dds_base.specs.BrickList.{has}
@@ -7,23 +7,24 @@ use Rattle.dds_brick_rows.specs.Refusal.{is_join}
 use Rattle.dds_cluster.specs.World.{emptied}
 use Rattle.dds_cluster.specs.declared.trace.Caller.{Caller}
 use Rattle.dds_core.specs.Brick.{brick_input, live_brick_turn}
-use Rattle.dds_core.specs.LibraryTurn.{live_library_turn}
 use Rattle.dds_law_notice.proofs.Link.{Link, lives as link_lives, over as link_over, told as link_told}
 use Rattle.dds_law_notice.proofs.Views.{View, brick-does, brick-takes, knows, same-stopped, view}
 use Rattle.dds_letters.specs.declared.letter.Letter.{Letter}
-use Rattle.dds_letters.specs.declared.letter.Letter.TheVariants as letter
 use Rattle.dds_net.specs.Event.{Event, nothing, unheard, unasked, brick_takes, brick_told, brick_stops, library_takes, library_asked, library_stops}
-use Rattle.dds_net.specs.Event.{Fits, asked_turn, moved}
+use Rattle.dds_net.specs.Event.{Fits, moved}
 use Rattle.dds_net.specs.Net.{Net, Node, a_brick, a_library, Sizes, put}
 use Rattle.dds_order_rows.specs.OwnOrder as order
 use Rattle.dds_orders.proofs.Asked.{or-left}
+use Rattle.dds_orders.proofs.Counting.{not-none}
+use Rattle.dds_orders.proofs.Numbers.{the-order}
 use Rattle.dds_states.specs.declared.brick_state.BrickState.{BrickState}
 use Rattle.dds_states.specs.declared.brick_state.OpenOrder.{OpenOrder}
 use Rattle.dds_states.specs.declared.brick_state.OrderPhase.{OrderPhase}
 use Rattle.dds_states.specs.declared.brick_state.OrderPhase.TheVariants.{Copying, Installing, Leasing}
-use Rattle.dds_share.proofs.Facts.{AreAll, inside-of}
+use Rattle.dds_share.proofs.Facts.{AreAll}
 use Rattle.dds_share.proofs.Heard.{part-copies}
-use Rattle.dds_share.proofs.JoinTurns.{order-opens, order-still, Rests, letter-goes, letter-rests, of_order, rests}
+use Rattle.dds_share.proofs.JoinTurns.{Rests, letter-goes, letter-rests, of_order, rests}
+use Rattle.dds_share.proofs.Opens.{order-opens, order-still}
 use Rattle.dds_share.proofs.Joins.{IsPart, JoinGoes, Same, at_once, begins, copies, ended, goes_on, installed, is_part, leases, same-order}
 use Rattle.dds_share.proofs.Parts.{part-before, part-brick}
 use Rattle.dds_share.proofs.Sources.{Copies, not-leasing}
@@ -80,12 +81,6 @@ known-empty c (link_over known is h) e = is
 no-part : (number : ℕ) (c : List Letter) → c ≡ [] → has_part number c ≡ true → ⊥
 no-part number c e h = let no : false ≡ true = sym (ap (has_part number) e) ∙ h in cc
 
-phase-not : (p q : OrderPhase) (n : Net) (j : ℕ) (o : OpenOrder) → p ≡ q → IsBound n j o p → IsBound n j o q
-phase-not p q n j o e h = subst (IsBound n j o) e h
-
-the-order : (p o : OpenOrder) → Some p ≡ Some o → p ≡ o
-the-order p o e = cc
-
 module _ (z : Sizes) (cs : List Caller) (n : Net) (e : Event) (f : Fits z cs n e) where
   -- of an order that stays
   bound-lives : (j source : ℕ) (o : OpenOrder) (t : BrickState) → NodeWas n source t → t.stopped ≡ false → IsBound n j o (Copying source)
@@ -138,9 +133,6 @@ leasing-is (Installing made) h = cc
 
 part-first : (p : OpenOrder) (l : Letter) → IsPart p l → has_this p.number l ≡ true
 part-first p _ (is_part last pairs) = eq-eqb p.number p.number refl
-
-none-some : (o : OpenOrder) → None ≡ Some o → ⊥
-none-some o e = cc
 
 -- a live brick takes a letter
 module _ (z : Sizes) (cs : List Caller) (n : Net) (at from : ℕ) (l : Letter) (s : BrickState) (f : Fits z cs n (brick_takes at from l s)) (g : AreAll z n) where
@@ -242,9 +234,9 @@ module _ (z : Sizes) (cs : List Caller) (n : Net) (at from : ℕ) (l : Letter) (
     goes-from p there join (copies q e same phase part leaf leaves) =
         let is : q ≡ o = the-order q o (sym e ∙ h.there) in
         was-this p there join (bound-part p there join phase part).bound (subst (Same p) is same)
-    goes-from p there join (ended e leaves) = absurd (none-some o (sym e ∙ h.there))
-    goes-from p there join (installed made phase none answer e leaves) = absurd (none-some o (sym e ∙ h.there))
-    goes-from p there join (at_once leaf v q phase part fixed gave number known none e leaves) = absurd (none-some o (sym e ∙ h.there))
+    goes-from p there join (ended e leaves) = absurd (not-none o (sym e ∙ h.there))
+    goes-from p there join (installed made phase none answer e leaves) = absurd (not-none o (sym e ∙ h.there))
+    goes-from p there join (at_once leaf v q phase part fixed gave number known none e leaves) = absurd (not-none o (sym e ∙ h.there))
 
     pub takes-from : IsFrom n (moved z n (brick_takes at from l s)) at (live_brick_turn s from l).state o
     takes-from = by s.order refl
@@ -268,7 +260,7 @@ module _ (z : Sizes) (cs : List Caller) (n : Net) (at from : ℕ) (l : Letter) (
             no-join (λ q e. subst (λ (x : OpenOrder). is_join x.task ≡ false) (the-order p q (sym there ∙ e)) join)
 
         by : (q : _) → s.order ≡ q → IsFrom n (moved z n (brick_takes at from l s)) at (live_brick_turn s from l).state o
-        by None e = no-join (λ p k. absurd (none-some p (sym e ∙ k)))
+        by None e = no-join (λ p k. absurd (not-none p (sym e ∙ k)))
         by (Some p) e = by-task p (is_join p.task) e refl
 
 -- a brick is told an order

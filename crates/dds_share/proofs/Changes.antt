@@ -1,11 +1,9 @@
-use Rattle.std.proofs.Common.{◌≡◌, ℕ, ◌≤◌, ◌||◌, ◌⊎◌, inl, inr, true, Option, Some, None, refl, sym, ap, ◌∙◌, subst, arith}
-use Rattle.std.proofs.lemmas.Bool.{both_ways}
+use Rattle.std.proofs.Common.{◌≡◌, ℕ, ◌≤◌, ◌||◌, ◌⊎◌, inl, inr, true, Option, Some, None, sym, ap, ◌∙◌, subst, arith}
 use Rattle.std.specs.FinMap.{get}
 use Rattle.std.specs.Prelude.{is_some}
 use Rattle.dds_base.specs.BrickList.{has}
 use Rattle.dds_base.specs.Name.{Name}
 use Rattle.dds_base.specs.NodeSet.{has_node}
-use Rattle.dds_base.specs.Number.{StampOf}
 use Rattle.dds_base.specs.declared.leaf.Leaf.{Leaf}
 use Rattle.dds_base.specs.declared.node_set.NodeSet.{NodeSet}
 use Rattle.dds_brick_rows.specs.Refusal.{is_join}
@@ -25,7 +23,7 @@ use Rattle.dds_order_rows.specs.OwnOrder as order
 use Rattle.dds_orders.proofs.Asked.{AskedBy, Asking}
 use Rattle.dds_orders.proofs.Standing.{keyed}
 use Rattle.dds_parents.proofs.Lists.{AllList, same-some, stands-known}
-use Rattle.dds_parents.proofs.Makes.{HasMade, Makes, a_leaf, no_leaf, prev-of, served-leafing, served-there, stamp-of}
+use Rattle.dds_parents.proofs.Makes.{Makes, a_leaf, no_leaf, prev-of, served-leafing, served-there, stamp-of}
 use Rattle.dds_parents.proofs.SplitLeaves.{SplitsIn}
 use Rattle.dds_parents.proofs.Taken.{comes-lists}
 use Rattle.dds_parents.specs.SplitLeaves.{HasSplitLeaf}
@@ -35,10 +33,9 @@ use Rattle.dds_serving.specs.Once.IsOpen.{opens, was_open}
 use Rattle.dds_states.specs.Turn.{BrickTurn}
 use Rattle.dds_states.specs.declared.brick_state.BrickState.{BrickState}
 use Rattle.dds_states.specs.declared.brick_state.OpenOrder.{OpenOrder}
-use Rattle.dds_states.specs.declared.brick_state.OrderPhase.{OrderPhase}
 use Rattle.dds_states.specs.declared.brick_state.OrderPhase.TheVariants.{Installing, Leasing}
 use Rattle.dds_states.specs.declared.brick_state.Task.{Task}
-use Rattle.dds_states.specs.declared.brick_state.Task.TheVariants.{Join, Split}
+use Rattle.dds_states.specs.declared.brick_state.Task.TheVariants.{Split}
 use Rattle.dds_world.specs.Groups as world
 use Rattle.dds_share.proofs.Over.{IsOver, Was, in_place, itself, replaced-was, split-was}
 use Rattle.dds_share.proofs.Turned.{Came, stays}

@@ -1,7 +1,6 @@
-use Rattle.std.proofs.Common.{◌≡◌, ℕ, ◌+◌, ◌==◌, ◌&&◌, ◌||◌, inl, inr, Bool, true, false, not, Some, List, [], ◌∷◌, refl, sym, ap, ◌∙◌, subst, arith}
+use Rattle.std.proofs.Common.{◌≡◌, ℕ, ◌+◌, ◌==◌, ◌&&◌, inl, inr, Bool, true, false, not, Some, List, [], ◌∷◌, refl, sym, ap, ◌∙◌, subst, arith}
 use Rattle.std.proofs.lemmas.Bool.{both_ways, cases_Bool, cases_eq, ne_eqb}
 use Rattle.std.specs.FinMap.{get}
-use Rattle.std.specs.List.{AllByRecursion}
 use Rattle.std.specs.Prelude.{is_some}
 use Rattle.dds_base.specs.BrickList.{has}
 use Rattle.dds_base.specs.Name.{Name}
@@ -9,7 +8,6 @@ use Rattle.dds_base.specs.NodeSet.{has_node}
 use Rattle.dds_base.specs.declared.leaf.Leaf.{Leaf}
 use Rattle.dds_brick_rows.specs.Refusal.{is_join}
 use Rattle.dds_cluster.specs.declared.trace.Caller.{Caller}
-use Rattle.dds_core.proofs.Tells.{is_notice}
 use Rattle.dds_groups.proofs.Members.{has-live}
 use Rattle.dds_groups.specs.Leaves.{live}
 use Rattle.dds_groups.specs.Names.{low_half}
@@ -19,7 +17,6 @@ use Rattle.dds_law_own.proofs.Lists as own_lists
 use Rattle.dds_law_own.proofs.Lists.{has-kept}
 use Rattle.dds_law_own.proofs.Owned.{IsOrderly, made_name, orderly}
 use Rattle.dds_letters.specs.declared.letter.Letter.{Letter}
-use Rattle.dds_letters.specs.declared.letter.Letter.TheVariants as letter
 use Rattle.dds_net.specs.Event.{Fits, brick_takes}
 use Rattle.dds_net.specs.Net.{Net, Sizes, a_brick}
 use Rattle.dds_order_rows.specs.OwnOrder as order
@@ -37,11 +34,11 @@ use Rattle.dds_states.specs.declared.brick_state.Task.{Task}
 use Rattle.dds_states.specs.declared.brick_state.Task.TheVariants.{Join, Split}
 use Rattle.dds_world.specs.Groups as world
 use Rattle.dds_share.proofs.Bounds.{bound-part}
-use Rattle.dds_share.proofs.Facts.{AreAll, both-of, inside-of, lists-itself, unknown-of}
+use Rattle.dds_share.proofs.Facts.{AreAll, both-of, lists-itself, unknown-of}
 use Rattle.dds_share.proofs.Heard.{heard-new, says-new}
 use Rattle.dds_share.proofs.Joins.{IsAnswer, IsPart, installs, stops}
 use Rattle.dds_share.proofs.Over.{one-over}
-use Rattle.dds_share.proofs.Together.{AreTogether, Bound, IsBound, Serves}
+use Rattle.dds_share.proofs.Together.{AreTogether, Bound, IsBound}
 use Rattle.dds_share.proofs.Together.IsBound.{installs as it_installs}
 use Rattle.dds_share.proofs.Turned.{IsNew}
 

@@ -5,7 +5,6 @@ use Rattle.dds_cluster.specs.World.{emptied}
 use Rattle.dds_cluster.specs.declared.trace.Caller.{Caller}
 use Rattle.dds_core.specs.Brick.{brick_input}
 use Rattle.dds_law_leaf.proofs.Keeps.{stopped-order}
-use Rattle.dds_law_notice.proofs.Keeps.{AreLinked}
 use Rattle.dds_net.proofs.Runs.{IsKept}
 use Rattle.dds_net.specs.Event.{Event, nothing, unheard, unasked, brick_takes, brick_told, brick_stops, library_takes, library_asked, library_stops}
 use Rattle.dds_net.specs.Event.{Fits, moved}
@@ -17,7 +16,7 @@ use Rattle.dds_states.specs.Turn.{BrickTurn}
 use Rattle.dds_states.specs.declared.brick_state.BrickState.{BrickState}
 use Rattle.dds_share.proofs.Bounds.{still-bound}
 use Rattle.dds_share.proofs.Facts.{AreAll, AreLow}
-use Rattle.dds_share.proofs.Keeps.{Quiet, quiet-keeps, turned-keeps}
+use Rattle.dds_share.proofs.Keeps.{quiet-keeps, turned-keeps}
 use Rattle.dds_share.proofs.Parts.{bricks-kept}
 use Rattle.dds_share.proofs.Together.{AreTogether}
 use Rattle.dds_share.proofs.TurnFacts.{takes-turns, told-turns}

@@ -1,7 +1,6 @@
-use Rattle.std.proofs.Common.{◌≡◌, ℕ, ◌==◌, ◌⊎◌, inl, inr, true, false, not, Some, List, refl, sym, ap, ◌∙◌, subst}
-use Rattle.std.proofs.lemmas.Bool.{both_ways, cases_Bool, cases_eq, ne_eqb}
+use Rattle.std.proofs.Common.{◌≡◌, ℕ, inl, inr, true, false, Some, List, sym, ap, ◌∙◌, subst}
+use Rattle.std.proofs.lemmas.Bool.{cases_Bool}
 use Rattle.std.specs.FinMap.{get}
-use Rattle.std.specs.Prelude.{is_some}
 use Rattle.dds_base.specs.BrickList.{has}
 use Rattle.dds_base.specs.Name.{Name, overlaps}
 use Rattle.dds_base.specs.NodeSet.{has_node}
@@ -84,5 +83,3 @@ module _ (z : Sizes) (n : Net) (g : AreAll z n) where
     | inr k ↦ k
   ]
 
-pub ne-test : (a b : ℕ) → (a ≡ b → ⊥) → (a == b) ≡ false
-ne-test a b ne = ne_eqb a b ne

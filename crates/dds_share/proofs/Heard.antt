@@ -1,24 +1,22 @@
-use Rattle.std.proofs.Common.{◌≡◌, inl, inr, ℕ, ◌==◌, ◌&&◌, ◌||◌, ◌++◌, Bool, true, false, not, Option, Some, None, List, [], ◌∷◌, refl, sym, ap, ◌∙◌, subst, arith}
+use Rattle.std.proofs.Common.{◌≡◌, inl, inr, ℕ, ◌==◌, ◌||◌, ◌++◌, Bool, true, false, not, Option, Some, None, List, [], ◌∷◌, refl, sym, ap, ◌∙◌, subst, arith}
 use Rattle.std.proofs.lemmas.Bool.{and_from, eq-eqb, eqb-true}
 use Rattle.std.proofs.lemmas.Bool.Decides.{nat_tests}
 use Rattle.std.specs.Prelude.{is_some, if◌then◌else◌}
 use Rattle.dds_base.specs.BrickList.{has}
 use Rattle.dds_base.specs.Name.{Name, same_name}
 use Rattle.dds_base.specs.NodeSet.{has_node}
-use Rattle.dds_base.specs.Place.{last_key}
 use Rattle.dds_base.specs.declared.leaf.Leaf.{Leaf}
 use Rattle.dds_letters.specs.declared.letter.Letter.{Letter}
 use Rattle.dds_letters.specs.declared.letter.Letter.TheVariants as letter
-use Rattle.dds_locks.specs.Leases.{is_given}
 use Rattle.dds_order_talk.proofs.Lines.{granted-leaf}
 use Rattle.dds_order_talk.proofs.Moves.{Tells}
-use Rattle.dds_order_talk.specs.Seen.{BrickTalk, New, Own, phase_view, rests, say_of, says, view, with_leaf}
+use Rattle.dds_order_talk.specs.Seen.{BrickTalk, New, Own, one, phase_view, rests, say_of, says, view, with_leaf}
 use Rattle.dds_order_talk.specs.Table.{Ask, Say, Talk, Talks, View}
 use Rattle.dds_order_talk.specs.Table.Say.{granted, refused, part, installed}
 use Rattle.dds_order_talk.specs.Table.Talk.{off, asked, said_yes, said_no, first, has as has_it, copies, copied, dropped, heard, told, said_so, done}
 use Rattle.dds_order_talk.specs.Table.Talks.{live, lost, gone}
 use Rattle.dds_order_talk.specs.Table.View.{Off, Waits, Has, Source, Due, Done}
-use Rattle.dds_orders.proofs.Asked.{or-left, or-right}
+use Rattle.dds_orders.proofs.Asked.{or-right}
 use Rattle.dds_states.specs.declared.brick_state.BrickState.{BrickState}
 use Rattle.dds_states.specs.declared.brick_state.OpenOrder.{OpenOrder}
 use Rattle.dds_states.specs.declared.brick_state.OrderPhase.{OrderPhase}
@@ -90,7 +88,7 @@ module _ (j m : ℕ) (s t : BrickState) (o : OpenOrder) (made : Leaf) (out back 
       → says s.order o.name back ≡ installed ∷ says s.order o.name rest
   first-says number name rest e f =
       ap (says s.order o.name) f ∙ ap (λ q. say_of q o.name (letter.Installed number name) ++ says s.order o.name rest) is
-      ∙ ap (λ c. Rattle.dds_order_talk.specs.Seen.one c installed ++ says s.order o.name rest)
+      ∙ ap (λ c. one c installed ++ says s.order o.name rest)
       (and_from (o.number == number) (same_name o.name o.name) (eq-eqb o.number number e) (name-self o.name))
 
   pub says-new : (number : ℕ) (name : Name) (rest : List Letter) → o.number ≡ number → back ≡ letter.Installed number name ∷ rest → New t.leaves o.name made
@@ -157,7 +155,7 @@ copied-talks e gone f = no-said e
 
 one-said : (o : OpenOrder) (l : Letter) → is_part o.number l ≡ true → some_said (say_of (Some o) o.name l) ≡ true
 one-said o (letter.CopyPart k last pairs) h =
-    ap (λ c. some_said (Rattle.dds_order_talk.specs.Seen.one c part))
+    ap (λ c. some_said (one c part))
     (and_from (o.number == k) (same_name o.name o.name) (eq-eqb o.number k (sym (eqb-true k o.number h))) (name-self o.name))
 one-said o other h = cc
 

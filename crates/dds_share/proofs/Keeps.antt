@@ -1,6 +1,5 @@
-use Rattle.std.proofs.Common.{◌≡◌, ℕ, ◌≤◌, ◌⊎◌, inl, inr, Bool, true, false, Option, Some, None, refl, sym, ap, ◌∙◌, subst}
-use Rattle.std.proofs.lemmas.Bool.{both_ways, cases_Bool, cases_eq}
-use Rattle.std.specs.FinMap.{get}
+use Rattle.std.proofs.Common.{◌≡◌, ℕ, ◌⊎◌, inl, inr, true, false, Some, refl, sym, ap, ◌∙◌, subst}
+use Rattle.std.proofs.lemmas.Bool.{cases_eq}
 use Rattle.std.specs.Prelude.{is_some}
 use Rattle.dds_base.specs.BrickList.{has}
 use Rattle.dds_base.specs.Name.{Name}
@@ -16,9 +15,9 @@ use Rattle.dds_share.proofs.Bounds.{IsFrom, Was, from_live, was}
 use Rattle.dds_share.proofs.Ends.{JoinEnds}
 use Rattle.dds_share.proofs.Facts.{AreAll, lists-itself}
 use Rattle.dds_share.proofs.Over.{IsOver}
-use Rattle.dds_share.proofs.Sources.{Copies, not-leasing, source-apart, source-granted}
+use Rattle.dds_share.proofs.Sources.{source-apart, source-granted}
 use Rattle.dds_share.proofs.Together.{Apart, AreTogether, Bound, Fixed, Granted, IsBound, Serves, Share, comes, copied, installs, lives}
-use Rattle.dds_share.proofs.Turned.{Came, Comes, at-is, others-same, put-same, share-turned}
+use Rattle.dds_share.proofs.Turned.{Came, at-is, others-same, put-same, share-turned}
 
 -- The invariant after an event in which no brick's leaves and order change, and after a turn of a brick.
 

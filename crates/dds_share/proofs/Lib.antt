@@ -4,6 +4,7 @@ pub mod Turned
 pub mod Changes
 pub mod Joins
 pub mod JoinTurns
+pub mod Opens
 pub mod Tasks
 pub mod Parts
 pub mod Heard

@@ -1,4 +1,4 @@
-use Rattle.std.proofs.Common.{◌≡◌, ℕ, ◌==◌, Bool, true, false, Option, None, Some, List, [], ◌∷◌, refl, sym, ap, ◌∙◌, subst}
+use Rattle.std.proofs.Common.{◌≡◌, ℕ, Bool, true, false, Option, None, Some, List, [], ◌∷◌, refl, sym, ap, ◌∙◌, subst}
 use Rattle.std.proofs.lemmas.Bool.{both_ways}
 use Rattle.std.specs.List.{AllByRecursion}
 use Rattle.std.specs.Prelude.{filter, if◌then◌else◌}
@@ -7,23 +7,19 @@ use Rattle.dds_base.specs.Name.{Name, overlaps}
 use Rattle.dds_base.specs.declared.leaf.Leaf.{Leaf}
 use Rattle.dds_cluster.specs.Trace.{start}
 use Rattle.dds_cluster.specs.World.{new_brick}
-use Rattle.dds_core.proofs.Lists.{all-map}
 use Rattle.dds_law_own.proofs.Halves.{overlap-sym}
 use Rattle.dds_law_own.proofs.Lists.{ByName, each-is, in-all, in-empty, none-passes}
-use Rattle.dds_law_own.proofs.Owned.{Named}
 use Rattle.dds_net.proofs.Opening.{IsNew, new_a_brick, new_a_library, no_node, start-channel, start-node}
-use Rattle.dds_net.specs.Net.{Net, Node, a_brick, a_library, net, nowhere, sizes_of}
-use Rattle.dds_order_talk.proofs.Letters as within
-use Rattle.dds_order_talk.proofs.Letters.{AreWithin}
+use Rattle.dds_net.specs.Net.{Node, a_brick, a_library, net, nowhere, sizes_of}
 use Rattle.dds_order_talk.proofs.Runs.{run-within}
 use Rattle.dds_parents.proofs.Openings.{start-listed}
 use Rattle.dds_parents.proofs.Splits.{run-split}
 use Rattle.dds_script.specs.Opening.{AreApart, IsOpening, OpeningOf}
 use Rattle.dds_states.specs.declared.brick_state.BrickState.{BrickState}
 use Rattle.dds_share.proofs.Facts.{AreLow}
-use Rattle.dds_share.proofs.Over.{IsOver, over-both}
+use Rattle.dds_share.proofs.Over.{over-both}
 use Rattle.dds_share.proofs.Parts.{FromBrick}
-use Rattle.dds_share.proofs.Together.{AreTogether, Serves}
+use Rattle.dds_share.proofs.Together.{AreTogether}
 
 -- Before the first step: bricks have the opening's leaves that list them, and no orders.
 

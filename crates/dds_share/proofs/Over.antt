@@ -1,4 +1,4 @@
-use Rattle.std.proofs.Common.{◌≡◌, ℕ, ◌+◌, ◌-◌, ◌%◌, ◌^◌, ◌≤◌, ◌==◌, ◌⊎◌, inl, inr, Bool, true, false, min, Option, Some, None, refl, sym, ap, ◌∙◌, subst}
+use Rattle.std.proofs.Common.{◌≡◌, ℕ, ◌%◌, ◌^◌, ◌≤◌, ◌==◌, ◌⊎◌, inl, inr, Bool, true, false, min, Option, Some, None, refl, sym, ap, ◌∙◌, subst}
 use Rattle.std.proofs.Common.{arith}
 use Rattle.std.proofs.lemmas.Bool.{eq-eqb, eqb-true}
 use Rattle.std.specs.FinMap.{get, remove}
@@ -15,7 +15,7 @@ use Rattle.dds_law_own.proofs.Halves.{over-high, over-low, over-other, over-whol
 use Rattle.dds_maps.specs.Own.{own_leaf, whole}
 use Rattle.dds_orders.proofs.Leased.{In}
 use Rattle.dds_orders.proofs.Over.{meets-over}
-use Rattle.dds_parents.proofs.Served.{CoveredBy, HalfOf, halves-are, left-is, put-is}
+use Rattle.dds_parents.proofs.Served.{CoveredBy, halves-are, left-is, put-is}
 use Rattle.dds_states.specs.declared.brick_state.OpenOrder.{OpenOrder}
 use Rattle.dds_states.specs.declared.brick_state.Task.TheVariants.{Join, Split}
 use Rattle.dds_trie.specs.Trie.{LeafMap, or_else, put}

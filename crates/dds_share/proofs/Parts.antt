@@ -1,4 +1,4 @@
-use Rattle.std.proofs.Common.{◌≡◌, ℕ, ◌==◌, ◌||◌, ◌++◌, ◌⊎◌, inl, inr, Bool, true, false, Some, List, [], ◌∷◌, refl, sym, ap, ◌∙◌, subst}
+use Rattle.std.proofs.Common.{◌≡◌, ℕ, ◌||◌, ◌⊎◌, inl, inr, Bool, true, false, List, [], ◌∷◌, refl, sym, ap, ◌∙◌, subst}
 use Rattle.std.proofs.lemmas.Bool.{both_ways, cases_Bool, cases_eq}
 use Rattle.std.specs.List.{AllByRecursion}
 use Rattle.dds_base.specs.declared.number.NodeNo.{NodeNo}
@@ -10,16 +10,16 @@ use Rattle.dds_letters.specs.declared.letter.Letter.{Letter}
 use Rattle.dds_letters.specs.declared.letter.Letter.TheVariants as letter
 use Rattle.dds_net.proofs.Carried.{AllCarried, News, letters-moved}
 use Rattle.dds_net.proofs.Carried.{Sends as Owed}
-use Rattle.dds_net.proofs.Letters.{AllSent, Sends, does-sent, stops-sent, takes-sent}
+use Rattle.dds_net.proofs.Letters.{AllSent, does-sent, stops-sent, takes-sent}
 use Rattle.dds_net.specs.Event.{Event, nothing, unheard, unasked, brick_takes, brick_told, brick_stops, library_takes, library_asked, library_stops}
 use Rattle.dds_net.specs.Event.{Fits, asked_turn, moved}
-use Rattle.dds_net.specs.Net.{Net, Node, nowhere, a_brick, a_library, Sizes, put}
+use Rattle.dds_net.specs.Net.{Net, Node, nowhere, a_brick, a_library, Sizes}
 use Rattle.dds_core.specs.LibraryTurn.{live_library_turn}
 use Rattle.dds_orders.proofs.Deeds.{AreOthers, is_of_orders}
 use Rattle.dds_orders.proofs.LibraryLetters.{asked-others, library-others}
 use Rattle.dds_states.specs.declared.brick_state.BrickState.{BrickState}
 use Rattle.dds_share.proofs.Together.{has_part, is_part}
-use Rattle.dds_share.proofs.Turned.{put-other, put-same}
+use Rattle.dds_share.proofs.Turned.{put-same}
 
 -- Parts of what orders copy come from bricks; and one that comes from a brick that has stopped came before.
 

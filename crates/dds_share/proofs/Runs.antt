@@ -1,21 +1,18 @@
-use Rattle.std.proofs.Common.{◌≡◌, ℕ, ◌+◌, ◌≤◌, ◌++◌, true, Some, List, [], ◌∷◌, length, refl, sym, ap, ◌∙◌, subst, arith}
+use Rattle.std.proofs.Common.{◌≡◌, ◌+◌, ◌≤◌, ◌++◌, true, List, [], ◌∷◌, length, sym, ap, ◌∙◌, subst, arith}
 use Rattle.std.proofs.Math.Seq.{take-append_seam}
 use Rattle.std.proofs.lemmas.List.{append-nil, append_assoc}
 use Rattle.std.specs.Prelude.{take}
-use Rattle.dds_base.specs.BrickList.{has}
-use Rattle.dds_base.specs.declared.leaf.Leaf.{Leaf}
 use Rattle.dds_cluster.specs.Trace.{is_run, run_of}
 use Rattle.dds_cluster.specs.declared.step.Step.{Step}
-use Rattle.dds_net.proofs.Journals.{EachKeeps, Grown, IsNext, journal-keeps, net_of}
+use Rattle.dds_net.proofs.Journals.{EachKeeps, Grown, journal-keeps, net_of}
 use Rattle.dds_net.proofs.Nodes.{brick-node}
 use Rattle.dds_net.proofs.Runs.{net-built, sized-run, IsBuilt}
-use Rattle.dds_net.specs.Event.{Event, history_of, moved}
-use Rattle.dds_net.specs.Net.{Net, net, sizes_of}
+use Rattle.dds_net.specs.Event.{history_of, moved}
+use Rattle.dds_net.specs.Net.{Net, sizes_of}
 use Rattle.dds_order_talk.specs.Seen.{OrdersTalk}
 use Rattle.dds_parents.proofs.Served.{covered-by}
 use Rattle.dds_script.specs.Opening.{IsOpening, OpeningOf}
-use Rattle.dds_states.specs.declared.brick_state.BrickState.{BrickState}
-use Rattle.dds_world.specs.Places.{Serves, reached, world_at}
+use Rattle.dds_world.specs.Places.{reached}
 use Rattle.dds_share.proofs.Events.{event-keeps, low-kept}
 use Rattle.dds_share.proofs.Facts.{AreAll, AreLow}
 use Rattle.dds_share.proofs.Openings.{start-low, start-together}

@@ -1,6 +1,5 @@
-use Rattle.std.proofs.Common.{◌≡◌, ℕ, ◌==◌, ◌⊎◌, inl, inr, true, false, Option, Some, None, refl, sym, ap, ◌∙◌, subst}
+use Rattle.std.proofs.Common.{◌≡◌, ℕ, true, false, Option, Some, None, refl, sym, ap, ◌∙◌, subst}
 use Rattle.std.proofs.lemmas.Bool.{both_ways, ne_eqb}
-use Rattle.std.specs.FinMap.{get}
 use Rattle.std.specs.Prelude.{is_some}
 use Rattle.dds_base.specs.BrickList.{has}
 use Rattle.dds_base.specs.Name.{Name, overlaps}
@@ -18,9 +17,9 @@ use Rattle.dds_orders.proofs.Standing.{order-is}
 use Rattle.dds_states.specs.declared.brick_state.BrickState.{BrickState}
 use Rattle.dds_states.specs.declared.brick_state.OpenOrder.{OpenOrder}
 use Rattle.dds_states.specs.declared.brick_state.OrderPhase.{OrderPhase}
-use Rattle.dds_states.specs.declared.brick_state.OrderPhase.TheVariants.{Copying, Installing, Leasing}
+use Rattle.dds_states.specs.declared.brick_state.OrderPhase.TheVariants.{Copying, Leasing}
 use Rattle.dds_share.proofs.Facts.{AreAll, asked-of, asking-of, both-of, gone-of, leases-apart, unknown-of}
-use Rattle.dds_share.proofs.Over.{IsOver, over-both}
+use Rattle.dds_share.proofs.Over.{over-both}
 use Rattle.dds_share.proofs.Together.{Bound, Granted, IsBound, Serves, Share, comes, copied, installs, lives}
 use Rattle.dds_share.proofs.Turned.{lives-not}
 

@@ -1,11 +1,10 @@
 use Rattle.std.proofs.Common.{◌≡◌, ℕ, ◌+◌, ◌&&◌, ◌++◌, Bool, true, false, Option, Some, None, List, [], ◌∷◌, refl, sym, ap, ◌∙◌}
-use Rattle.std.specs.Prelude.{is_none, nat_le, length, if◌then◌else◌}
+use Rattle.std.specs.Prelude.{nat_le, length, if◌then◌else◌}
 use Rattle.dds_base.specs.NodeSet.{has_node}
 use Rattle.dds_base.specs.declared.brick_list.TheConstants.{MEMBERS}
 use Rattle.dds_base.specs.declared.leaf.Leaf.{Leaf}
 use Rattle.dds_base.specs.declared.number.NodeNo.{NodeNo}
 use Rattle.dds_base.specs.declared.op.OrderReply.TheVariants as answered
-use Rattle.dds_base.specs.declared.pair.Pair.{Pair}
 use Rattle.dds_brick_rows.specs.Refusal.{is_join}
 use Rattle.dds_core.specs.Brick.{live_brick_turn}
 use Rattle.dds_core.specs.Notice as notices

@@ -1,4 +1,4 @@
-use Rattle.std.proofs.Common.{◌≡◌, ℕ, ◌≤◌, ◌⊎◌, inl, inr, Bool, true, false, Option, Some, None, List, refl, sym, ap, ◌∙◌, subst}
+use Rattle.std.proofs.Common.{◌≡◌, ℕ, ◌≤◌, ◌⊎◌, inl, inr, true, false, Option, Some, None, List, refl, sym, ap, ◌∙◌, subst}
 use Rattle.std.proofs.lemmas.Bool.{both_ways}
 use Rattle.std.specs.Prelude.{is_some}
 use Rattle.dds_base.specs.Name.{Name}
@@ -8,7 +8,7 @@ use Rattle.dds_base.specs.declared.op.Order.{Order}
 use Rattle.dds_brick_rows.specs.Refusal.{is_join}
 use Rattle.dds_cluster.specs.declared.trace.Caller.{Caller}
 use Rattle.dds_core.specs.Brick.{brick_input, live_brick_turn}
-use Rattle.dds_law_leaf.proofs.Book.{BrickOk, Known, Leafed, NodeOk}
+use Rattle.dds_law_leaf.proofs.Book.{Book, BrickOk, Known, Leafed, NodeOk}
 use Rattle.dds_law_leaf.proofs.Bricks.{brick-turned, order-turned}
 use Rattle.dds_law_leaf.proofs.Keeps.{heard}
 use Rattle.dds_law_notice.proofs.Views.{View, brick-takes, knows, learns, view}
@@ -17,18 +17,19 @@ use Rattle.dds_law_own.proofs.Keeps as owns
 use Rattle.dds_law_own.proofs.Keeps.{of-another}
 use Rattle.dds_law_own.proofs.Parted.{IsBoth}
 use Rattle.dds_letters.specs.declared.letter.Letter.{Letter}
-use Rattle.dds_net.specs.Event.{Event, Fits, brick_takes, brick_told, moved}
+use Rattle.dds_net.specs.Event.{Fits, brick_takes, brick_told, moved}
 use Rattle.dds_net.specs.Net.{Net, Sizes, a_brick}
 use Rattle.dds_order_rows.specs.OwnOrder as order
 use Rattle.dds_order_rows.specs.OwnOrder.{is_leasing}
 use Rattle.dds_orders.proofs.Asked.{AskedBy}
 use Rattle.dds_orders.proofs.Asks.{NodeAsks}
+use Rattle.dds_orders.proofs.Counting.{not-none}
 use Rattle.dds_orders.proofs.Leased.{In}
+use Rattle.dds_orders.proofs.Numbers.{the-order}
 use Rattle.dds_orders.proofs.Standing.{keyed}
 use Rattle.dds_parents.proofs.Keeps.{Gone, gone-later, known-gone}
-use Rattle.dds_parents.proofs.Lists.{AllList, lists-later}
+use Rattle.dds_parents.proofs.Lists.{lists-later}
 use Rattle.dds_parents.proofs.Makes.{Makes}
-use Rattle.dds_parents.proofs.SplitLeaves.{SplitsIn}
 use Rattle.dds_parents.proofs.Splits.{NodeSplits}
 use Rattle.dds_parents.proofs.Turns.{known_after, letter-makes, order-makes}
 use Rattle.dds_serving.proofs.Once.{change-once}
@@ -39,8 +40,6 @@ use Rattle.dds_serving.specs.Once.TakeOnce.{stays as leaves_stay, takes as takes
 use Rattle.dds_states.specs.Turn.{BrickTurn}
 use Rattle.dds_states.specs.declared.brick_state.BrickState.{BrickState}
 use Rattle.dds_states.specs.declared.brick_state.OpenOrder.{OpenOrder}
-use Rattle.dds_states.specs.declared.brick_state.OrderPhase.{OrderPhase}
-use Rattle.dds_states.specs.declared.brick_state.OrderPhase.TheVariants.{Copying, Installing, Leasing}
 use Rattle.dds_states.specs.declared.brick_state.Task.{Task}
 use Rattle.dds_states.specs.declared.brick_state.Task.TheVariants.{Join, Split}
 use Rattle.dds_world.specs.Groups.{letter_leaf}
@@ -48,7 +47,8 @@ use Rattle.dds_share.proofs.Bounds.{still-bound, takes-from, told-from}
 use Rattle.dds_share.proofs.Changes.{Turn, split, took}
 use Rattle.dds_share.proofs.Ends.{JoinEnds, at-once-ends, installed-ends}
 use Rattle.dds_share.proofs.Facts.{AreAll, AreLow}
-use Rattle.dds_share.proofs.JoinTurns.{IsOfOrder, Rests, letter-goes, letter-rests, of_order, order-opens, order-still, rests}
+use Rattle.dds_share.proofs.JoinTurns.{Rests, letter-goes, letter-rests, of_order, rests}
+use Rattle.dds_share.proofs.Opens.{order-opens, order-still}
 use Rattle.dds_share.proofs.Joins.{JoinGoes, at_once, begins, copies, ended, goes_on, installed, leases}
 use Rattle.dds_share.proofs.Keeps.{Turns}
 use Rattle.dds_share.proofs.Over.{IsOver, join-was}
@@ -61,17 +61,11 @@ use Rattle.dds_share.proofs.Turned.{Came, put-same, stays}
 split-not : (t : Task) (via : ℕ) → t ≡ Split → t ≡ Join via → ⊥
 split-not t via e f = let no : Split ≡ Join via = sym e ∙ f in cc
 
-none-some : (o : OpenOrder) → None ≡ Some o → ⊥
-none-some o e = cc
-
-the-order : (p o : OpenOrder) → Some p ≡ Some o → p ≡ o
-the-order p o e = cc
-
 abbrev CameOr : (ℕ → Type 0) → Net → ℕ → BrickState → BrickTurn → Type 0
 CameOr gone n at s t = (spot : Name) (new : Leaf) → IsOver t.state.leaves spot new → Came gone s.leaves spot new ⊎ JoinEnds n at s spot new
 
 -- what was told is taken, or a split's leaf served
-module _ (n : Net) (at : ℕ) (b : _) (gone : ℕ → Type 0) (told : Option Leaf) (s : BrickState) (t : BrickTurn) (turn : Turn at b gone told s t) where
+module _ (n : Net) (at : ℕ) (b : Book) (gone : ℕ → Type 0) (told : Option Leaf) (s : BrickState) (t : BrickTurn) (turn : Turn at b gone told s t) where
   same-leaves : t.state.leaves ≡ s.leaves → CameOr gone n at s t
   same-leaves e spot new over = inl (stays gone s.leaves spot new (subst (λ m. IsOver m spot new) e over))
 
@@ -188,9 +182,9 @@ module _ (z : Sizes) (cs : List Caller) (n : Net) (at from : ℕ) (l : Letter) (
         let is : q ≡ o = the-order q o (sym e ∙ open_order) in
         let leaf_o : o.leaf ≡ p.leaf = subst (λ (x : OpenOrder). x.leaf ≡ p.leaf) is leaf in
         ap is_some leaf_o ∙ had-leaf p there join (ap is_leasing phase)
-    fixed-goes p there join (ended e leaves) = absurd (none-some o (sym e ∙ open_order))
-    fixed-goes p there join (installed made phase none answer e leaves) = absurd (none-some o (sym e ∙ open_order))
-    fixed-goes p there join (at_once leaf v q phase part fixed gave number known none e leaves) = absurd (none-some o (sym e ∙ open_order))
+    fixed-goes p there join (ended e leaves) = absurd (not-none o (sym e ∙ open_order))
+    fixed-goes p there join (installed made phase none answer e leaves) = absurd (not-none o (sym e ∙ open_order))
+    fixed-goes p there join (at_once leaf v q phase part fixed gave number known none e leaves) = absurd (not-none o (sym e ∙ open_order))
 
     fixed-rests : (p : OpenOrder) → s.order ≡ Some p → is_join p.task ≡ true → Rests s l (live_brick_turn s from l) → is_some o.leaf ≡ true
     fixed-rests p there join (rests e take) =
@@ -201,7 +195,7 @@ module _ (z : Sizes) (cs : List Caller) (n : Net) (at from : ℕ) (l : Letter) (
 
     fixed-by : (q : Option OpenOrder) → s.order ≡ q → is_some o.leaf ≡ true
     fixed-by None e =
-        absurd (both_ways (is_join o.task) ((letter-stays false s from l (λ p k. absurd (none-some p (sym e ∙ k)))).is o open_order) joins)
+        absurd (both_ways (is_join o.task) ((letter-stays false s from l (λ p k. absurd (not-none p (sym e ∙ k)))).is o open_order) joins)
     fixed-by (Some p) e = task p.task refl
       where
         task : (t : Task) → p.task ≡ t → is_some o.leaf ≡ true
