@@ -171,4 +171,5 @@ module _ (me : ℕ) (b : Book) (gone : ℕ → Type 0) (told : Option Leaf) (s :
       is ∙ ap (λ (x : Leafing). x.leaves) (served-leafing s p made p.task) ∙ ap (served s.leaves p made) task in
       let q = its-leaf p open_order task in
       let so = made-so p made q open_order has_made task leaves in
-      from-was spot q.leaf made new (λ k. so.lists) (split-was s.leaves names spot new p q.leaf made so.name q.there (subst (λ m. IsOver m spot new) leaves over))
+      from-was spot q.leaf made new (λ k. so.lists)
+      (split-was s.leaves names spot new p q.leaf made so.name q.there (subst (λ m. IsOver m spot new) leaves over))

@@ -82,4 +82,3 @@ module _ (z : Sizes) (n : Net) (g : AreAll z n) where
     | inl k ↦ absurd (lives-not n b t there live (gone-of j b s here k))
     | inr k ↦ k
   ]
-

@@ -1,4 +1,5 @@
 use Rattle.std.proofs.Common.{◌≡◌, ◌==◌, ◌||◌, ◌+◌, Bool, true, false, Option, Some, None, List, [], ◌∷◌, refl, sym, ap, ◌∙◌}
+use Rattle.std.proofs.lemmas.Bool.{both_ways}
 use Rattle.std.specs.FinMap.{get, keys}
 use Rattle.std.specs.List.{list_any}
 use Rattle.std.specs.Prelude.{is_some, if◌then◌else◌}
@@ -16,6 +17,8 @@ use Rattle.dds_locks.specs.Leases.{leased}
 use Rattle.dds_locks.specs.Pending.{any_under}
 use Rattle.dds_order_rows.specs.Orders as orders
 use Rattle.dds_order_rows.specs.OwnOrder as order
+use Rattle.dds_orders.proofs.Counting.{not-none}
+use Rattle.dds_orders.proofs.Numbers.{the-order}
 use Rattle.dds_states.specs.Turn.{BrickTurn, is_none_left, without}
 use Rattle.dds_states.specs.declared.brick_state.BrickState.{BrickState}
 use Rattle.dds_states.specs.declared.brick_state.OpenOrder.{OpenOrder}
@@ -41,14 +44,11 @@ pub record Opened (t : BrickTurn) : Type 0 where
   pub is : (o : OpenOrder) → t.state.order ≡ Some o → is_join o.task ≡ true → order.is_leasing o.phase ≡ true
 
 none-open : (t : BrickTurn) → t.state.order ≡ None → Opened t
-none-open t e = record { is = λ o f j. let no : None ≡ Some o = sym e ∙ f in cc }
+none-open t e = record { is = λ o f j. absurd (not-none o (sym e ∙ f)) }
 
 split-open : (t : BrickTurn) (p : OpenOrder) → t.state.order ≡ Some p → p.task ≡ Split → Opened t
 split-open t p e task =
-    record { is = λ o f j. let is : Some p ≡ Some o = sym e ∙ f in let same : p ≡ o = cc in absurd (no (sym (ap (λ (x : OpenOrder). is_join x.task) same) ∙ ap is_join task) j) }
-  where
-    no : {c : Bool} → c ≡ false → c ≡ true → ⊥
-    no e f = let n : true ≡ false = sym f ∙ e in cc
+    record { is = λ o f j. absurd (both_ways (is_join o.task) (sym (ap (λ (x : OpenOrder). is_join x.task) (the-order p o (sym e ∙ f))) ∙ ap is_join task) j) }
 
 opened-if : (c : Bool) {t u : BrickTurn} → Opened t → Opened u → Opened (if c then t else u)
 opened-if true h k = h
@@ -90,7 +90,7 @@ split_named s (Some leaf) e = split_leaf s leaf e
 join_opens : (s : BrickState) (name : Name) (via : NodeNo) → Opened (order.join_opens s name via)
 join_opens s name via =
     let p = order.opens s (Join via) name None (via ∷ []) in
-    record { is = λ o f j. let is : Some p ≡ Some o = f in let same : p ≡ o = cc in sym (ap (λ (x : OpenOrder). order.is_leasing x.phase) same) }
+    record { is = λ o f j. sym (ap (λ (x : OpenOrder). order.is_leasing x.phase) (the-order p o f)) }
 
 pub order-opens : (s : BrickState) (o : Order) → s.order ≡ None → Opened (brick_input s o)
 order-opens s (the_order.Join brick name via) e =

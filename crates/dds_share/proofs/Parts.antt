@@ -164,7 +164,8 @@ part-before z cs n (brick_takes at from l s) number source j t f there dead h =
     let u = (live_brick_turn s from l).state in
     let live : u.stopped ≡ false = ap (λ (v : View). v.stopped) (brick-takes s from l f.live).after ∙ same-stopped from l (view (a_brick s)) ∙ f.live in
     no-news z cs n (brick_takes at from l s) number source j f
-    (news-other z at number source j _ (live-brick (moved z n (brick_takes at from l s)) at source u t (put-same n.node at at (a_brick u) refl) live there dead)) h
+    (news-other z at number source j _ (live-brick (moved z n (brick_takes at from l s)) at source u t (put-same n.node at at (a_brick u) refl) live there
+    dead)) h
 part-before z cs n (brick_told at o s) number source j t f there dead h =
     no-news z cs n (brick_told at o s) number source j f (news s.stopped refl) h
   where

@@ -12,6 +12,8 @@ use Rattle.dds_groups.specs.Leaves.{live}
 use Rattle.dds_law_leaf.proofs.Book.{Leafing}
 use Rattle.dds_letters.specs.declared.letter.Letter.{Letter}
 use Rattle.dds_order_rows.specs.OwnOrder as order
+use Rattle.dds_orders.proofs.Counting.{not-none}
+use Rattle.dds_orders.proofs.Numbers.{the-order}
 use Rattle.dds_states.specs.Turn.{BrickTurn, is_none_left, without}
 use Rattle.dds_states.specs.declared.brick_state.BrickState.{BrickState}
 use Rattle.dds_states.specs.declared.brick_state.OpenOrder.{OpenOrder}
@@ -30,11 +32,11 @@ abbrev pub AllOf : Bool → Option OpenOrder → Type 0
 AllOf c q = (o : OpenOrder) → q ≡ Some o → is_join o.task ≡ c
 
 none-open : (c : Bool) (t : BrickTurn) → t.state.order ≡ None → Stays c t
-none-open c t e = record { is = λ o f. let no : None ≡ Some o = sym e ∙ f in cc }
+none-open c t e = record { is = λ o f. absurd (not-none o (sym e ∙ f)) }
 
 some-open : (c : Bool) (t : BrickTurn) (p : OpenOrder) → t.state.order ≡ Some p → is_join p.task ≡ c → Stays c t
 some-open c t p e j =
-    record { is = λ o f. let is : Some p ≡ Some o = sym e ∙ f in let same : p ≡ o = cc in sym (ap (λ (x : OpenOrder). is_join x.task) same) ∙ j }
+    record { is = λ o f. sym (ap (λ (x : OpenOrder). is_join x.task) (the-order p o (sym e ∙ f))) ∙ j }
 
 stays-if : (c b : Bool) {t u : BrickTurn} → Stays c t → Stays c u → Stays c (if b then t else u)
 stays-if c true h k = h

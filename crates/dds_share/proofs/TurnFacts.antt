@@ -162,47 +162,47 @@ module _ (z : Sizes) (cs : List Caller) (n : Net) (at from : ℕ) (l : Letter) (
 
   -- a join that doesn't lease has a leaf
   module _ (o : OpenOrder) (open_order : (live_brick_turn s from l).state.order ≡ Some o) (joins : is_join o.task ≡ true) (works : is_leasing o.phase ≡ false)
-      where
-    had-leaf : (p : OpenOrder) → s.order ≡ Some p → is_join p.task ≡ true → is_leasing p.phase ≡ false → is_some p.leaf ≡ true
-    had-leaf p there join phase = h.fixed at s p f.here f.live there join phase
+    where
+      had-leaf : (p : OpenOrder) → s.order ≡ Some p → is_join p.task ≡ true → is_leasing p.phase ≡ false → is_some p.leaf ≡ true
+      had-leaf p there join phase = h.fixed at s p f.here f.live there join phase
 
-    fixed-goes : (p : OpenOrder) → s.order ≡ Some p → is_join p.task ≡ true → JoinGoes s.number s.known s.leaves p from l (live_brick_turn s from l)
-        → is_some o.leaf ≡ true
-    fixed-goes p there join (leases q e same leasing leaves) =
-        let is : q ≡ o = the-order q o (sym e ∙ open_order) in
-        absurd (both_ways (is_leasing o.phase) works (subst (λ (x : OpenOrder). is_leasing x.phase ≡ true) is leasing))
-    fixed-goes p there join (goes_on q e same phase same_copied leaf leaves) =
-        let is : q ≡ o = the-order q o (sym e ∙ open_order) in
-        let phase_o : o.phase ≡ p.phase = subst (λ (x : OpenOrder). x.phase ≡ p.phase) is phase in
-        let leaf_o : o.leaf ≡ p.leaf = subst (λ (x : OpenOrder). x.leaf ≡ p.leaf) is leaf in
-        ap is_some leaf_o ∙ had-leaf p there join (sym (ap is_leasing phase_o) ∙ works)
-    fixed-goes p there join (begins q source e same empty phase fixed leaves) =
-        let is : q ≡ o = the-order q o (sym e ∙ open_order) in subst (λ (x : OpenOrder). is_some x.leaf ≡ true) is fixed
-    fixed-goes p there join (copies q e same phase part leaf leaves) =
-        let is : q ≡ o = the-order q o (sym e ∙ open_order) in
-        let leaf_o : o.leaf ≡ p.leaf = subst (λ (x : OpenOrder). x.leaf ≡ p.leaf) is leaf in
-        ap is_some leaf_o ∙ had-leaf p there join (ap is_leasing phase)
-    fixed-goes p there join (ended e leaves) = absurd (not-none o (sym e ∙ open_order))
-    fixed-goes p there join (installed made phase none answer e leaves) = absurd (not-none o (sym e ∙ open_order))
-    fixed-goes p there join (at_once leaf v q phase part fixed gave number known none e leaves) = absurd (not-none o (sym e ∙ open_order))
+      fixed-goes : (p : OpenOrder) → s.order ≡ Some p → is_join p.task ≡ true → JoinGoes s.number s.known s.leaves p from l (live_brick_turn s from l)
+          → is_some o.leaf ≡ true
+      fixed-goes p there join (leases q e same leasing leaves) =
+          let is : q ≡ o = the-order q o (sym e ∙ open_order) in
+          absurd (both_ways (is_leasing o.phase) works (subst (λ (x : OpenOrder). is_leasing x.phase ≡ true) is leasing))
+      fixed-goes p there join (goes_on q e same phase same_copied leaf leaves) =
+          let is : q ≡ o = the-order q o (sym e ∙ open_order) in
+          let phase_o : o.phase ≡ p.phase = subst (λ (x : OpenOrder). x.phase ≡ p.phase) is phase in
+          let leaf_o : o.leaf ≡ p.leaf = subst (λ (x : OpenOrder). x.leaf ≡ p.leaf) is leaf in
+          ap is_some leaf_o ∙ had-leaf p there join (sym (ap is_leasing phase_o) ∙ works)
+      fixed-goes p there join (begins q source e same empty phase fixed leaves) =
+          let is : q ≡ o = the-order q o (sym e ∙ open_order) in subst (λ (x : OpenOrder). is_some x.leaf ≡ true) is fixed
+      fixed-goes p there join (copies q e same phase part leaf leaves) =
+          let is : q ≡ o = the-order q o (sym e ∙ open_order) in
+          let leaf_o : o.leaf ≡ p.leaf = subst (λ (x : OpenOrder). x.leaf ≡ p.leaf) is leaf in
+          ap is_some leaf_o ∙ had-leaf p there join (ap is_leasing phase)
+      fixed-goes p there join (ended e leaves) = absurd (not-none o (sym e ∙ open_order))
+      fixed-goes p there join (installed made phase none answer e leaves) = absurd (not-none o (sym e ∙ open_order))
+      fixed-goes p there join (at_once leaf v q phase part fixed gave number known none e leaves) = absurd (not-none o (sym e ∙ open_order))
 
-    fixed-rests : (p : OpenOrder) → s.order ≡ Some p → is_join p.task ≡ true → Rests s l (live_brick_turn s from l) → is_some o.leaf ≡ true
-    fixed-rests p there join (rests e take) =
-        let is : p ≡ o = the-order p o (sym there ∙ sym e ∙ open_order) in
-        subst (λ (x : OpenOrder). is_some x.leaf ≡ true) is
-        (had-leaf p there join (subst (λ (x : OpenOrder). is_leasing x.phase ≡ false) (sym is) works))
-    fixed-rests p there join (of_order k) = fixed-goes p there join (letter-goes s p there join from l k)
+      fixed-rests : (p : OpenOrder) → s.order ≡ Some p → is_join p.task ≡ true → Rests s l (live_brick_turn s from l) → is_some o.leaf ≡ true
+      fixed-rests p there join (rests e take) =
+          let is : p ≡ o = the-order p o (sym there ∙ sym e ∙ open_order) in
+          subst (λ (x : OpenOrder). is_some x.leaf ≡ true) is
+          (had-leaf p there join (subst (λ (x : OpenOrder). is_leasing x.phase ≡ false) (sym is) works))
+      fixed-rests p there join (of_order k) = fixed-goes p there join (letter-goes s p there join from l k)
 
-    fixed-by : (q : Option OpenOrder) → s.order ≡ q → is_some o.leaf ≡ true
-    fixed-by None e =
-        absurd (both_ways (is_join o.task) ((letter-stays false s from l (λ p k. absurd (not-none p (sym e ∙ k)))).is o open_order) joins)
-    fixed-by (Some p) e = task p.task refl
-      where
-        task : (t : Task) → p.task ≡ t → is_some o.leaf ≡ true
-        task (Join via) j = fixed-rests p e (ap is_join j) (letter-rests s from l)
-        task Split j =
-            absurd (both_ways (is_join o.task) ((letter-stays false s from l (λ q k. subst (λ (x : OpenOrder). is_join x.task ≡ false)
-            (the-order p q (sym e ∙ k)) (ap is_join j))).is o open_order) joins)
+      fixed-by : (q : Option OpenOrder) → s.order ≡ q → is_some o.leaf ≡ true
+      fixed-by None e =
+          absurd (both_ways (is_join o.task) ((letter-stays false s from l (λ p k. absurd (not-none p (sym e ∙ k)))).is o open_order) joins)
+      fixed-by (Some p) e = task p.task refl
+        where
+          task : (t : Task) → p.task ≡ t → is_some o.leaf ≡ true
+          task (Join via) j = fixed-rests p e (ap is_join j) (letter-rests s from l)
+          task Split j =
+              absurd (both_ways (is_join o.task) ((letter-stays false s from l (λ q k. subst (λ (x : OpenOrder). is_join x.task ≡ false)
+              (the-order p q (sym e ∙ k)) (ap is_join j))).is o open_order) joins)
 
   pub takes-turns : Turns n (moved z n (brick_takes at from l s)) at s (live_brick_turn s from l).state
   takes-turns =
