@@ -1,8 +1,9 @@
-use Rattle.std.proofs.Common.{◌≡◌, ℕ, inl, inr, Bool, true, false, Some, None, List, [], refl, sym, ap, ◌∙◌, subst}
+use Rattle.std.proofs.Common.{◌≡◌, ℕ, inl, inr, Bool, true, false, Option, Some, None, List, [], refl, sym, ap, ◌∙◌, subst}
 use Rattle.std.proofs.lemmas.Bool.{both_ways, cases_Bool, cases_eq, eq-eqb, ne_eqb}
 use Rattle.std.specs.Prelude.{is_some}
 use Rattle.dds_base.specs.BrickList.{has}
 use Rattle.dds_base.specs.NodeSet.{has_node}
+use Rattle.dds_base.specs.declared.op.Order.{Order}
 use Rattle.dds_brick_rows.specs.Refusal.{is_join}
 use Rattle.dds_cluster.specs.World.{emptied}
 use Rattle.dds_cluster.specs.declared.trace.Caller.{Caller}
@@ -21,6 +22,7 @@ use Rattle.dds_states.specs.declared.brick_state.BrickState.{BrickState}
 use Rattle.dds_states.specs.declared.brick_state.OpenOrder.{OpenOrder}
 use Rattle.dds_states.specs.declared.brick_state.OrderPhase.{OrderPhase}
 use Rattle.dds_states.specs.declared.brick_state.OrderPhase.TheVariants.{Copying, Installing, Leasing}
+use Rattle.dds_states.specs.declared.library_state.LibraryState.{LibraryState}
 use Rattle.dds_share.proofs.Facts.{AreAll}
 use Rattle.dds_share.proofs.Heard.{part-copies}
 use Rattle.dds_share.proofs.JoinTurns.{Rests, letter-goes, letter-rests, of_order, rests}
@@ -47,7 +49,7 @@ put-was n at k y t f h = elim (cases_eq k at) [
   | inr ne ↦ as_before (sym (put-other n.node at k y ne) ∙ h)
 ]
 
-no-brick : (q : _) (t : BrickState) → a_library q ≡ a_brick t → ⊥
+no-brick : (q : LibraryState) (t : BrickState) → a_library q ≡ a_brick t → ⊥
 no-brick q t e = cc
 
 pub takes-live : (s : BrickState) (from : ℕ) (l : Letter) → s.stopped ≡ false → (live_brick_turn s from l).state.stopped ≡ false
@@ -259,17 +261,17 @@ module _ (z : Sizes) (cs : List Caller) (n : Net) (at from : ℕ) (l : Letter) (
         by-task p false there join =
             no-join (λ q e. subst (λ (x : OpenOrder). is_join x.task ≡ false) (the-order p q (sym there ∙ e)) join)
 
-        by : (q : _) → s.order ≡ q → IsFrom n (moved z n (brick_takes at from l s)) at (live_brick_turn s from l).state o
+        by : (q : Option OpenOrder) → s.order ≡ q → IsFrom n (moved z n (brick_takes at from l s)) at (live_brick_turn s from l).state o
         by None e = no-join (λ p k. absurd (not-none p (sym e ∙ k)))
         by (Some p) e = by-task p (is_join p.task) e refl
 
 -- a brick is told an order
-module _ (z : Sizes) (cs : List Caller) (n : Net) (at : ℕ) (c : _) (s : BrickState) (f : Fits z cs n (brick_told at c s)) where
+module _ (z : Sizes) (cs : List Caller) (n : Net) (at : ℕ) (c : Order) (s : BrickState) (f : Fits z cs n (brick_told at c s)) where
   pub told-from : (o : OpenOrder) → Bound (moved z n (brick_told at c s)) at (brick_input s c).state o
       → IsFrom n (moved z n (brick_told at c s)) at (brick_input s c).state o
   told-from o h = by s.order refl
     where
-      by : (q : _) → s.order ≡ q → IsFrom n (moved z n (brick_told at c s)) at (brick_input s c).state o
+      by : (q : Option OpenOrder) → s.order ≡ q → IsFrom n (moved z n (brick_told at c s)) at (brick_input s c).state o
       by None e =
           absurd (not-leasing (moved z n (brick_told at c s)) at o o.phase h.bound (leasing-is o.phase ((order-opens s c e).is o h.there h.join)))
       by (Some p) e =

@@ -14,6 +14,7 @@ use Rattle.dds_parents.proofs.Keeps.{listed-kept}
 use Rattle.dds_parents.proofs.Splits.{split-kept}
 use Rattle.dds_states.specs.Turn.{BrickTurn}
 use Rattle.dds_states.specs.declared.brick_state.BrickState.{BrickState}
+use Rattle.dds_states.specs.declared.library_state.LibraryState.{LibraryState}
 use Rattle.dds_share.proofs.Bounds.{still-bound}
 use Rattle.dds_share.proofs.Facts.{AreAll, AreLow}
 use Rattle.dds_share.proofs.Keeps.{quiet-keeps, turned-keeps}
@@ -42,7 +43,7 @@ put-quiet n at k y t f h = elim (cases_eq k at) [
   | inr ne ↦ sym (put-other n.node at k y ne) ∙ h
 ]
 
-no-brick : (q : _) (t : BrickState) → a_library q ≡ a_brick t → ⊥
+no-brick : (q : LibraryState) (t : BrickState) → a_library q ≡ a_brick t → ⊥
 no-brick q t e = cc
 
 stopped-not : (s t : BrickState) → a_brick (emptied s.number) ≡ a_brick t → t.stopped ≡ false → ⊥

@@ -2,6 +2,7 @@ use Rattle.std.proofs.Common.{◌≡◌, ℕ, ◌+◌, Bool, true, false, Option
 use Rattle.std.proofs.lemmas.Bool.{and_parts}
 use Rattle.std.specs.Prelude.{is_some, nat_le, length, if◌then◌else◌}
 use Rattle.dds_base.specs.BrickList.{has}
+use Rattle.dds_base.specs.Name.{Name}
 use Rattle.dds_base.specs.NodeSet.{has_node}
 use Rattle.dds_base.specs.declared.brick_list.TheConstants.{MEMBERS}
 use Rattle.dds_base.specs.declared.leaf.Leaf.{Leaf}
@@ -40,7 +41,7 @@ pub record Same (p o : OpenOrder) : Type 0 where
 
 -- a letter after which a member isn't waited for
 pub data IsAnswer (p : OpenOrder) : Letter → Type 0 where
-  installs : (name : _) → IsAnswer p (letter.Installed p.number name)
+  installs : (name : Name) → IsAnswer p (letter.Installed p.number name)
   stops : IsAnswer p letter.Notice
 
 pub data IsPart (p : OpenOrder) : Letter → Type 0 where

@@ -11,6 +11,7 @@ use Rattle.dds_orders.proofs.Leased.{In}
 use Rattle.dds_parents.proofs.Keeps.{Gone}
 use Rattle.dds_states.specs.declared.brick_state.BrickState.{BrickState}
 use Rattle.dds_states.specs.declared.brick_state.OpenOrder.{OpenOrder}
+use Rattle.dds_states.specs.declared.brick_state.OrderPhase.{OrderPhase}
 use Rattle.dds_share.proofs.Bounds.{IsFrom, Was, from_live, was}
 use Rattle.dds_share.proofs.Ends.{JoinEnds}
 use Rattle.dds_share.proofs.Facts.{AreAll, lists-itself}
@@ -117,7 +118,7 @@ module _ (z : Sizes) (n m : Net) (at : ℕ) (s u : BrickState) (g : AreAll z m) 
   bound-fixed : (j : ℕ) (v : BrickState) (o : OpenOrder) → Bound m j v o → is_some o.leaf ≡ true
   bound-fixed j v o k = fixed-after j v o k.here k.live k.there k.join (phase-is o.phase k.bound)
     where
-      phase-is : (p : _) → IsBound m j o p → is_leasing p ≡ false
+      phase-is : (p : OrderPhase) → IsBound m j o p → is_leasing p ≡ false
       phase-is _ (installs made) = refl
       phase-is _ (lives source r here live) = refl
       phase-is _ (copied source ne) = refl

@@ -18,6 +18,7 @@ use Rattle.dds_core.specs.LibraryTurn.{live_library_turn}
 use Rattle.dds_orders.proofs.Deeds.{AreOthers, is_of_orders}
 use Rattle.dds_orders.proofs.LibraryLetters.{asked-others, library-others}
 use Rattle.dds_states.specs.declared.brick_state.BrickState.{BrickState}
+use Rattle.dds_states.specs.declared.library_state.LibraryState.{LibraryState}
 use Rattle.dds_share.proofs.Together.{has_part, is_part}
 use Rattle.dds_share.proofs.Turned.{put-same}
 
@@ -151,7 +152,7 @@ live-brick m at source u t here live there dead e =
     let same : a_brick u ≡ a_brick t = sym here ∙ ap m.node e ∙ there in
     both_ways u.stopped live (ap (λ x. (view x).stopped) same ∙ dead)
 
-library-not : (m : Net) (at source : ℕ) (q : _) (t : BrickState) → m.node at ≡ a_library q → m.node source ≡ a_brick t → at ≡ source → ⊥
+library-not : (m : Net) (at source : ℕ) (q : LibraryState) (t : BrickState) → m.node at ≡ a_library q → m.node source ≡ a_brick t → at ≡ source → ⊥
 library-not m at source q t here there e = let no : a_library q ≡ a_brick t = sym here ∙ ap m.node e ∙ there in cc
 
 pub part-before : (z : Sizes) (cs : List Caller) (n : Net) (e : Event) (number source j : ℕ) (t : BrickState) → Fits z cs n e
