@@ -214,7 +214,7 @@ module _ (s : BrickState) (p : OpenOrder) (there : s.order ≡ Some p) (join : i
       (source-is from p.phase (and_parts (order.is_source from p.phase) (order.fits p pairs) h).0) (is_part last pairs) refl refl refl refl
       (record { number = refl; name = refl; granted = λ n k. k })))
   letter-goes _ (says_so number name) =
+      let row = order.installed_in (record s { order = None }) (record p { waiting = without p.waiting from }) p.phase in
       at-order number _ (λ o. order.is_installing o.phase) (λ t o. order.installed_in t (record o { waiting = without o.waiting from }) o.phase)
-      (λ e h. subst (λ i. Goes (letter.Installed i name)
-      (order.installed_in (record s { order = None }) (record p { waiting = without p.waiting from }) p.phase)) e (joins.installed_in p join from _ s.number s.known s p.phase refl (installs name)))
+      (λ e h. subst (λ i. Goes (letter.Installed i name) row) e (joins.installed_in p join from _ s.number s.known s p.phase refl (installs name)))
   letter-goes _ tells = notice_row
