@@ -6,3 +6,7 @@ pub mod Flags
 pub mod Elsewhere
 pub mod Rows
 pub mod CallRows
+pub mod Points
+pub mod Settles
+pub mod Folds
+pub mod Turns

@@ -24,11 +24,11 @@ use Rattle.dds_values.specs.Values.{HoldsTable, IsLeftBy}
 
 -- an update that is pending is settled: committed for the first time, or again, or aborted
 pub first-at-own : (made : List Made) (m : Made) (s : BrickState) (txn : Txn) (p : Pending) → first_of s.locks.pending txn ≡ Some p
-    → m.txn ≡ p.txn → m.entry.op ≡ p.op → IsFirst made m s → HoldsTable made s
+    → m.txn ≡ p.txn → m.entry.op ≡ p.op → IsApart s.locks.pending → IsFirst made m s → HoldsTable made s
     → HoldsTable (made ++ m ∷ []) (calls.applied (calls.dropped s txn) p).state
-first-at-own made m s txn p found its same f h =
+first-at-own made m s txn p found its same apart f h =
     record {
-      held = applied-first made s txn p m f.apart found (ap (is_applied made) (sym its) ∙ f.new) same h.held;
+      held = applied-first made s txn p m apart found (ap (is_applied made) (sym its) ∙ f.new) same h.held;
       after = all-first (IsLeftBy (made ++ m ∷ [])) (is_numbered txn) s.locks.pending (first-at-other made m s f h).after;
     }
 
@@ -72,7 +72,7 @@ pub record MaySettle (made : List Made) (s : BrickState) (place : ℕ) (commit :
   pub never : commit ≡ false → is_applied made p.txn ≡ false
 
 -- Outcome, and what a resolver decides
-without-none : (ps : List Pending) (t : Txn) → first_of ps t ≡ None → without ps t ≡ ps
+pub without-none : (ps : List Pending) (t : Txn) → first_of ps t ≡ None → without ps t ≡ ps
 without-none [] t e = refl
 without-none (x ∷ ps) t e = pick (same_txn x.txn t) e (without-none ps t)
   where
@@ -92,7 +92,7 @@ applied-if made s txn p place true e apart found may h =
 applied-if made s txn p place false e apart found may h =
     subst (λ g. HoldsTable (made ++ ((if not g && false then [] else update_by place (calls.flag_at s p) p ∷ []) ++ []))
     (calls.applied (calls.dropped s txn) p).state) (sym may.update)
-    (first-at-own made (update_by place (calls.flag_at s p) p) s txn p found refl refl (may.new refl e) h)
+    (first-at-own made (update_by place (calls.flag_at s p) p) s txn p found refl refl apart (may.new refl e) h)
 
 pub settled-holds : (made : List Made) (s : BrickState) (txn : Txn) (c : Bool) (q : Option Pending) (place : ℕ) (l : Letter)
     → first_of s.locks.pending txn ≡ q → IsApart s.locks.pending → ((p : Pending) → q ≡ Some p → MaySettle made s place c p) → HoldsTable made s
