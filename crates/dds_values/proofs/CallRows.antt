@@ -101,7 +101,7 @@ read-holds made m key s e h =
       after = all-map (IsLeftBy made) (IsLeftBy (made ++ m ∷ [])) s.locks.pending (λ p k. left-read made m p reads k) h.after;
     }
 
-got-legal : (made : List Made) (s : BrickState) (from : NodeNo) (txn : Txn) (caller : CallerNo) (call : CallNo) (key : ℕ) (name : Name) (stamp : StampOf)
+pub got-legal : (made : List Made) (s : BrickState) (from : NodeNo) (txn : Txn) (caller : CallerNo) (call : CallNo) (key : ℕ) (name : Name) (stamp : StampOf)
     (place : ℕ) (o : Option Refusal) → get_refusal s key name stamp ≡ o → HoldsTable made s → IsLegal (entries_of_points made)
     → IsLegal (entries_of_points (made ++ all_kept made
     (points_made place (letter.Get txn caller call key name stamp) (calls.got s from txn key o).out.points)))
@@ -111,10 +111,3 @@ got-legal made s from txn caller call key name stamp place None e h legal =
     s key (read-right made s key name stamp e h.held) refl refl legal
 got-legal made s from txn caller call key name stamp place (Some why) e h legal =
     subst (λ l. IsLegal (entries_of_points l)) (sym (append-nil made)) legal
-
-pub get-legal : (made : List Made) (s : BrickState) (from : NodeNo) (txn : Txn) (caller : CallerNo) (call : CallNo) (key : ℕ) (name : Name)
-    (stamp : StampOf) (place : ℕ) → HoldsTable made s → IsLegal (entries_of_points made)
-    → IsLegal (entries_of_points (made ++ all_kept made
-    (points_made place (letter.Get txn caller call key name stamp) (calls.get_row s from txn key name stamp).out.points)))
-get-legal made s from txn caller call key name stamp place h legal =
-    got-legal made s from txn caller call key name stamp place (get_refusal s key name stamp) refl h legal

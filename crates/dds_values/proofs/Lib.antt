@@ -10,3 +10,5 @@ pub mod Points
 pub mod Settles
 pub mod Folds
 pub mod Turns
+pub mod Changes
+pub mod BrickTurns
