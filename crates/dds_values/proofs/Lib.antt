@@ -12,3 +12,5 @@ pub mod Folds
 pub mod Turns
 pub mod Changes
 pub mod BrickTurns
+pub mod BrickFlags
+pub mod LibraryFlags

@@ -92,7 +92,7 @@ same-op op_of p qs h g =
     all-map (HasItsOp op_of) (λ q. q.txn ≡ p.txn → q.op ≡ p.op) qs
     (λ q k e. let two : Some q.op ≡ Some p.op = sym k ∙ ap op_of e ∙ h in cc) g
 
-is-update : (t : Txn) (place : ℕ) (was : Bool) (p : Pending) → p.txn ≡ t → is_get p.op ≡ false → is_update_of t (update_by place was p) ≡ true
+pub is-update : (t : Txn) (place : ℕ) (was : Bool) (p : Pending) → p.txn ≡ t → is_get p.op ≡ false → is_update_of t (update_by place was p) ≡ true
 is-update t place was p e f =
     and_from (same_txn p.txn t) (not (is_get p.op)) (ap (λ x. same_txn x t) e ∙ same-self t) (ap not f)
 
