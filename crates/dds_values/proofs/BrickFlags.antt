@@ -22,7 +22,7 @@ use Rattle.dds_letters.specs.declared.letter.Letter.{Letter}
 use Rattle.dds_letters.specs.declared.letter.Letter.TheVariants as letter
 use Rattle.dds_letters.specs.declared.refusal.Denial.{Denial}
 use Rattle.dds_letters.specs.declared.refusal.Refusal.{Refusal}
-use Rattle.dds_locks.specs.Pending.{IsApart, first_of}
+use Rattle.dds_locks.specs.Pending.{first_of}
 use Rattle.dds_states.specs.declared.brick_state.BrickState.{BrickState}
 use Rattle.dds_talk.proofs.Parts.{is-same}
 use Rattle.dds_values.proofs.Bricks.{pending-held}
@@ -30,7 +30,7 @@ use Rattle.dds_values.proofs.BrickTurns.{Start, ends_of}
 use Rattle.dds_values.proofs.Elsewhere.{found-all}
 use Rattle.dds_values.proofs.Flags.{first-flag, further-flag}
 use Rattle.dds_values.proofs.Points.{with_points}
-use Rattle.dds_values.proofs.Settles.{May, MayEnd, Now, OtherBrick, PointFits, is-update}
+use Rattle.dds_values.proofs.Settles.{May, OtherBrick, PointFits, is-update}
 use Rattle.dds_values.specs.Values.{HasFlag, LetterFlag}
 
 -- The flag that a brick tells is that of the first point of its update.

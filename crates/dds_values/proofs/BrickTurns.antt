@@ -1,4 +1,4 @@
-use Rattle.std.proofs.Common.{◌≡◌, ℕ, not, cond, Bool, true, false, Option, Some, None, List, [], ◌∷◌, ◌++◌, refl, sym, ap, ◌∙◌, subst}
+use Rattle.std.proofs.Common.{◌≡◌, ℕ, not, cond, Bool, true, false, Option, Some, None, List, [], ◌∷◌, refl, sym, ap, ◌∙◌, subst}
 use Rattle.std.proofs.lemmas.List.{append-nil}
 use Rattle.std.specs.FinMap.{get}
 use Rattle.std.specs.List.{AllByRecursion}
@@ -36,12 +36,12 @@ use Rattle.dds_states.specs.declared.turn.Point.{Point}
 use Rattle.dds_talk.specs.Seen.{Once}
 use Rattle.dds_values.proofs.Befores.{applied-more}
 use Rattle.dds_values.proofs.CallRows.{got-legal, prepare-holds, read-holds}
-use Rattle.dds_values.proofs.Changes.{leaves-held}
+use Rattle.dds_values.proofs.Changes.{LeavesAt, leaves-held}
 use Rattle.dds_values.proofs.Folds.{Goes, Rests, Settled, hear, help, notice, query}
 use Rattle.dds_values.proofs.Points.{with_points}
 use Rattle.dds_values.proofs.Settles.{May, Now, OtherBrick, PointFits, same-now}
 use Rattle.dds_values.proofs.Turns.{Fold, fold-rests, fold-settled}
-use Rattle.dds_values.specs.Below.{IsCovered, LeavesAt, LeavesKeepHeld}
+use Rattle.dds_values.specs.Below.{IsCovered, LeavesKeepHeld}
 use Rattle.dds_values.specs.Values.{HoldsTable}
 
 -- A turn of a live brick: what is so of the points and of the live bricks after it.

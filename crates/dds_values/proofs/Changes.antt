@@ -1,11 +1,15 @@
 use Rattle.std.proofs.Common.{◌≡◌, ℕ, ◌==◌, Bool, true, false, cond, Option, Some, None, is_some, List, [], ◌∷◌, refl, sym, ap, ◌∙◌, subst}
 use Rattle.std.proofs.lemmas.Bool.{both_ways, eqb-true}
-use Rattle.std.specs.FinMap.{get}
 use Rattle.std.specs.List.{AllByRecursion}
 use Rattle.dds_base.specs.Number.{Txn}
 use Rattle.dds_base.specs.Op.{the_key}
+use Rattle.dds_base.specs.declared.number.NodeNo.{NodeNo}
 use Rattle.dds_base.specs.declared.pending.Pending.{Pending}
 use Rattle.dds_cluster.specs.declared.trace.Made.{Made}
+use Rattle.dds_core.specs.Brick.{live_brick_turn}
+use Rattle.dds_core.specs.Notice.{learns, order_part}
+use Rattle.dds_letters.specs.declared.letter.Letter.{Letter}
+use Rattle.dds_letters.specs.declared.letter.Letter.TheVariants as letter
 use Rattle.dds_locks.specs.Pending.{holder}
 use Rattle.dds_states.specs.Leaf.{leaf_for}
 use Rattle.dds_states.specs.declared.brick_state.BrickState.{BrickState}
@@ -45,3 +49,17 @@ leaves-held made s u same covered k h =
       held = λ key now. change-held made s u key (is_some (leaf_for s.leaves key)) refl same covered k h now;
       after = subst (AllByRecursion (IsLeftBy made)) (sym same) h.after;
     }
+
+-- at each letter that a brick takes: for a notice, where its open order has gone on
+abbrev pub LeavesAt : List Made → BrickState → NodeNo → Letter → Type 0
+LeavesAt made s from (letter.Push leaf) = LeavesKeepHeld made s (live_brick_turn s from (letter.Push leaf)).state
+LeavesAt made s from (letter.Lease number what) = LeavesKeepHeld made s (live_brick_turn s from (letter.Lease number what)).state
+LeavesAt made s from (letter.Granted number leaf) = LeavesKeepHeld made s (live_brick_turn s from (letter.Granted number leaf)).state
+LeavesAt made s from (letter.LeaseRefused number why) = LeavesKeepHeld made s (live_brick_turn s from (letter.LeaseRefused number why)).state
+LeavesAt made s from (letter.Release number name) = LeavesKeepHeld made s (live_brick_turn s from (letter.Release number name)).state
+LeavesAt made s from (letter.CopyAsk number name place) = LeavesKeepHeld made s (live_brick_turn s from (letter.CopyAsk number name place)).state
+LeavesAt made s from (letter.CopyPart number last pairs) = LeavesKeepHeld made s (live_brick_turn s from (letter.CopyPart number last pairs)).state
+LeavesAt made s from (letter.Install number leaf) = LeavesKeepHeld made s (live_brick_turn s from (letter.Install number leaf)).state
+LeavesAt made s from (letter.Installed number name) = LeavesKeepHeld made s (live_brick_turn s from (letter.Installed number name)).state
+LeavesAt made s from letter.Notice = LeavesKeepHeld made s (order_part (learns s from) from).state
+LeavesAt made s from other = Unit {0}

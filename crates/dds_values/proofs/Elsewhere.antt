@@ -1,7 +1,6 @@
 use Rattle.std.proofs.Common.{◌≡◌, ℕ, ◌==◌, Bool, true, false, not, cond, Option, Some, None, is_some, List, [], ◌∷◌, ◌++◌, refl, sym, ap, ◌∙◌, subst}
 use Rattle.std.proofs.lemmas.Bool.{and_parts, eqb-true}
 use Rattle.std.specs.List.{AllByRecursion}
-use Rattle.dds_base.specs.BrickList.{has}
 use Rattle.dds_base.specs.Number.{Txn, same_txn}
 use Rattle.dds_base.specs.Op.{is_get, the_key}
 use Rattle.dds_base.specs.declared.pending.Pending.{Pending}
@@ -10,7 +9,6 @@ use Rattle.dds_cluster.specs.declared.trace.Made.{Made}
 use Rattle.dds_core.proofs.Lists.{all-both, all-map}
 use Rattle.dds_locks.proofs.Locked.{found-numbered}
 use Rattle.dds_locks.specs.Pending.{IsApart, first_of, holder}
-use Rattle.dds_net.specs.Net.{Net}
 use Rattle.dds_states.specs.Leaf.{leaf_for}
 use Rattle.dds_states.specs.declared.brick_state.BrickState.{BrickState}
 use Rattle.dds_talk.proofs.Parts.{is-same}
@@ -18,7 +16,7 @@ use Rattle.dds_talk.specs.Parts.{SureAt}
 use Rattle.dds_talk.specs.Seen.{at, at_of}
 use Rattle.dds_values.proofs.Bricks.{first-elsewhere, found-holder, self-key}
 use Rattle.dds_values.proofs.Tables.{left-first}
-use Rattle.dds_values.specs.Below.{IsCovered, ListsMember, LiveBrick, ServersShare}
+use Rattle.dds_values.specs.Below.{IsCovered}
 use Rattle.dds_values.specs.Values.{HoldsTable, IsLeftBy}
 
 -- A transaction that is applied for the first time is pending at each live brick that has a leaf for its key.
@@ -32,18 +30,9 @@ found-all P (x ∷ ps) t p h e = pick (same_txn x.txn t) e (found-all P ps t p h
     pick true f g = let is : x ≡ p = cc in subst P is h.0
     pick false f g = g f
 
-some-is : {X : Type 0} (o : Option X) → is_some o ≡ true → (x : X) × (o ≡ Some x)
+pub some-is : {X : Type 0} (o : Option X) → is_some o ≡ true → (x : X) × (o ≡ Some x)
 some-is None e = cc
 some-is (Some x) e = (x, refl)
-
--- a live brick that has a leaf for the key of what is pending at another one is a member of it
-pub server-listed : (n : Net) (m k : ℕ) (s v : BrickState) (t : Txn) (p : Pending) → ServersShare n → LiveBrick n m s → LiveBrick n k v
-    → first_of s.locks.pending t ≡ Some p → is_some (leaf_for v.leaves (the_key p.op)) ≡ true → has p.list k ≡ true
-server-listed n m k s v t p g here there found serves =
-    let mine = some-is (leaf_for s.leaves (the_key p.op)) (found-all (IsCovered s) s.locks.pending t p (g.covered m s here) found) in
-    let its = some-is (leaf_for v.leaves (the_key p.op)) serves in
-    found-all (ListsMember s k mine.0) s.locks.pending t p (g.lists m k s v mine.0 here there) found mine.1
-    (g.share m k s v (the_key p.op) mine.0 its.0 here there mine.1 its.1)
 
 -- a member for which it is sure, and which hasn't noted the commit, has it pending
 sure-found : (found : Option Pending) (noted : Option Bool) → (noted ≡ Some true → ⊥) → SureAt (at_of (is_some found) noted)

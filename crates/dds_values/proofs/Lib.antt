@@ -11,6 +11,10 @@ pub mod Settles
 pub mod Folds
 pub mod Turns
 pub mod Changes
+pub mod Leaves
 pub mod BrickTurns
 pub mod BrickFlags
 pub mod LibraryFlags
+pub mod AtBricks
+pub mod Kept
+pub mod Runs

@@ -1,10 +1,8 @@
 use Rattle.std.proofs.Common.{◌≡◌, ℕ, ◌⊎◌, inl, inr, Bool, true, false, Option, Some, None, List, [], refl, sym, ap, ◌∙◌, subst}
-use Rattle.std.proofs.lemmas.Bool.{both_ways}
 use Rattle.std.specs.List.{AllByRecursion}
 use Rattle.std.specs.Prelude.{if◌then◌else◌}
-use Rattle.dds_answered.proofs.Flags.{letter-txn, own-calls}
+use Rattle.dds_answered.proofs.Flags.{letter-txn}
 use Rattle.dds_answered.proofs.Results.{HasFlag, before, begun-unflagged, flagged, is_flagged, now}
-use Rattle.dds_attempts.proofs.Runs.{Stands}
 use Rattle.dds_base.specs.Number.{Txn}
 use Rattle.dds_base.specs.declared.leaf.Leaf.{Leaf}
 use Rattle.dds_base.specs.declared.number.CallNo.{CallNo}
@@ -12,7 +10,6 @@ use Rattle.dds_base.specs.declared.number.CallerNo.{CallerNo}
 use Rattle.dds_base.specs.declared.number.NodeNo.{NodeNo}
 use Rattle.dds_base.specs.declared.op.Op.{Op}
 use Rattle.dds_books.proofs.Turns.{end-with}
-use Rattle.dds_books.specs.Books.{Book}
 use Rattle.dds_books.specs.Calls.{CallsOk}
 use Rattle.dds_call_rows.specs.Library.{CallTurn, aborted_in, applied_in, begin, call_concerns, first_flag, goes_without, got_in, lost_or_applied}
 use Rattle.dds_call_rows.specs.Library.{replies, stays, told_in, vote_in}

@@ -1,6 +1,5 @@
-use Rattle.std.proofs.Common.{◌≡◌, ℕ, ◌&&◌, ◌||◌, Bool, true, false, not, Option, Some, None, is_some, List, [], ◌∷◌, ◌++◌, refl, sym, ap, ◌∙◌, subst}
+use Rattle.std.proofs.Common.{◌≡◌, ℕ, ◌&&◌, ◌||◌, Bool, true, false, not, Option, Some, is_some, List, [], ◌∷◌, ◌++◌, refl, sym, ap, ◌∙◌}
 use Rattle.std.proofs.lemmas.Bool.{and_from, both_ways}
-use Rattle.std.proofs.lemmas.List.{append-nil}
 use Rattle.std.specs.FinMap.{get, insert}
 use Rattle.std.specs.List.{AllByRecursion}
 use Rattle.dds_base.specs.Number.{Txn, same_txn}
@@ -8,14 +7,11 @@ use Rattle.dds_base.specs.Op.{is_get, the_key}
 use Rattle.dds_base.specs.declared.op.Op.{Op}
 use Rattle.dds_base.specs.declared.pending.Pending.{Pending}
 use Rattle.dds_brick_rows.specs.Calls as calls
-use Rattle.dds_brick_rows.specs.Resolution as rows
 use Rattle.dds_cluster.specs.Lists.{is_applied, is_update_of}
 use Rattle.dds_cluster.specs.Turn.{update_by}
 use Rattle.dds_cluster.specs.declared.trace.Made.{Made}
 use Rattle.dds_core.proofs.Lists.{all-append, all-map}
 use Rattle.dds_history.specs.History.{IsLegal}
-use Rattle.dds_letters.specs.declared.letter.Letter.{Letter}
-use Rattle.dds_locks.proofs.Locked.{found-numbered}
 use Rattle.dds_locks.specs.Pending.{IsApart, first_of, holder}
 use Rattle.dds_states.specs.Leaf.{leaf_for}
 use Rattle.dds_states.specs.declared.brick_state.BrickState.{BrickState}
@@ -24,8 +20,7 @@ use Rattle.dds_values.proofs.Befores.{applied-more, applied-this, before-all}
 use Rattle.dds_values.proofs.Bricks.{found-holder, pending-held}
 use Rattle.dds_values.proofs.Elsewhere.{IsFirst, first-at-other, found-all, other-meets, own-meets}
 use Rattle.dds_values.proofs.Flags.{first-legal}
-use Rattle.dds_values.proofs.Points.{with_points}
-use Rattle.dds_values.proofs.Rows.{aborted-at-own, first-at-own, further-at-own, same-at-own, without-none}
+use Rattle.dds_values.proofs.Rows.{aborted-at-own, first-at-own, further-at-own, same-at-own}
 use Rattle.dds_values.specs.Below.{IsCovered}
 use Rattle.dds_values.specs.Values.{HoldsTable, bound_in}
 use Rattle.dds_world.specs.Values.{entries_of_points}

@@ -24,12 +24,12 @@ use Rattle.dds_states.specs.declared.brick_state.BrickState.{BrickState}
 use Rattle.dds_states.specs.declared.turn.Point.{Point}
 use Rattle.dds_states.specs.declared.turn.Point.TheVariants as point
 use Rattle.dds_talk.proofs.Parts.{get-this, is-same, pending-gone}
-use Rattle.dds_talk.proofs.Tales.{Done, Tale, outcome-tale}
+use Rattle.dds_talk.proofs.Tales.{Done, outcome-tale}
 use Rattle.dds_talk.proofs.Tales.Done.{same, ended}
 use Rattle.dds_talk.specs.Seen.{Once, is_pending}
 use Rattle.dds_values.proofs.Befores.{applied-more}
 use Rattle.dds_values.proofs.Elsewhere.{found-all}
-use Rattle.dds_values.proofs.Folds.{Goes, IsSame, Rests, Settled}
+use Rattle.dds_values.proofs.Folds.{Rests, Settled}
 use Rattle.dds_values.proofs.Points.{then-points, with_points}
 use Rattle.dds_values.proofs.Rows.{without-none}
 use Rattle.dds_values.proofs.Settles.{May, Now, OtherBrick, aborted-now, first-now, further-now, same-now}
