@@ -101,7 +101,8 @@ module _ (before : List Made) (Beside : BrickState → Type 0) (op_of : Txn → 
         tt,
       )
 
-  got-flags : (made : List Made) (s : BrickState) (from : NodeNo) (x : Txn) (key : ℕ) (o : Option Refusal) → AllFlags made (calls.got s from x key o).out.letters
+  got-flags : (made : List Made) (s : BrickState) (from : NodeNo) (x : Txn) (key : ℕ) (o : Option Refusal)
+      → AllFlags made (calls.got s from x key o).out.letters
   got-flags made s from x key None = (tt, tt)
   got-flags made s from x key (Some why) = (tt, tt)
 

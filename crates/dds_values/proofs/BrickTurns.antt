@@ -39,7 +39,7 @@ use Rattle.dds_values.proofs.CallRows.{got-legal, prepare-holds, read-holds}
 use Rattle.dds_values.proofs.Changes.{LeavesAt, leaves-held}
 use Rattle.dds_values.proofs.Folds.{Goes, Rests, Settled, hear, help, notice, query}
 use Rattle.dds_values.proofs.Points.{with_points}
-use Rattle.dds_values.proofs.Settles.{May, Now, OtherBrick, PointFits, same-now}
+use Rattle.dds_values.proofs.Settles.{May, Now, OtherBrick, PointFits}
 use Rattle.dds_values.proofs.Turns.{Fold, fold-rests, fold-settled}
 use Rattle.dds_values.specs.Below.{IsCovered, LeavesKeepHeld}
 use Rattle.dds_values.specs.Values.{HoldsTable}
@@ -185,16 +185,6 @@ module _ (before : List Made) (Beside : BrickState → Type 0) (op_of : Txn → 
       })
 
   -- a notice
-  learnt : (ends : Txn → Option Bool) (s : BrickState) (y : NodeNo) → Start ends s → Start ends (notices.learns s y)
-  learnt ends s y h =
-      record {
-        once = h.once;
-        apart = h.apart;
-        may = h.may;
-        covered = h.covered;
-        now = same-now before Beside op_of decided ends besides before s (notices.learns s y) refl refl refl (λ t o. o) h.now;
-      }
-
   ordered : (ends : Txn → Option Bool) (s : BrickState) (y : NodeNo) → LeavesKeepHeld before s (notices.order_part (notices.learns s y) y).state
       → Asks before s y letter.Notice → Start ends s
       → FoldAt ends letter.Notice (notices.order_part (notices.learns s y) y).state (notices.order_part (notices.learns s y) y).out.points

@@ -63,3 +63,11 @@ LeavesAt made s from (letter.Install number leaf) = LeavesKeepHeld made s (live_
 LeavesAt made s from (letter.Installed number name) = LeavesKeepHeld made s (live_brick_turn s from (letter.Installed number name)).state
 LeavesAt made s from letter.Notice = LeavesKeepHeld made s (order_part (learns s from) from).state
 LeavesAt made s from other = Unit {0}
+
+-- at those at which the brick's own order goes on
+abbrev pub OwnKept : List Made → BrickState → NodeNo → Letter → Type 0
+OwnKept made s from (letter.Granted number leaf) = LeavesAt made s from (letter.Granted number leaf)
+OwnKept made s from (letter.CopyPart number last pairs) = LeavesAt made s from (letter.CopyPart number last pairs)
+OwnKept made s from (letter.Installed number name) = LeavesAt made s from (letter.Installed number name)
+OwnKept made s from letter.Notice = LeavesAt made s from letter.Notice
+OwnKept made s from other = Unit {0}

@@ -61,7 +61,8 @@ module _ (F : Fact) (rests : Rests F) (settled : Settled F) where
       when s (is_none_left r.waiting) (rows.decides s r) (still (record s { resolving = s.resolving ++ r ∷ [] }))
       (after s (rows.outcome_row s r.txn (rows.verdict r))
       (λ t. sends t (to_each (unknown_others r.list t.number t.known) (letter.Outcome r.txn (rows.verdict r)))) (settled s r.txn (rows.verdict r))
-      (λ u. same u u (to_each (unknown_others r.list u.number u.known) (letter.Outcome r.txn (rows.verdict r))) (record { leaves = refl; pairs = refl; locks = refl }))) (same s _ [] (record { leaves = refl; pairs = refl; locks = refl }))
+      (λ u. same u u (to_each (unknown_others r.list u.number u.known) (letter.Outcome r.txn (rows.verdict r)))
+      (record { leaves = refl; pairs = refl; locks = refl }))) (same s _ [] (record { leaves = refl; pairs = refl; locks = refl }))
 
   resolve : (s : BrickState) (x : Txn) (list : List ℕ) → Goes F s (rows.resolve s x list)
   resolve s x list =
@@ -92,7 +93,8 @@ module _ (F : Fact) (rests : Rests F) (settled : Settled F) where
 
   pub hear : (s : BrickState) (y : NodeNo) (n : News) → Goes F s (rows.all_hear s y n)
   hear s y n =
-      from s (record s { resolving = [] }) (rows.resolvings_go (record s { resolving = [] }) y n s.resolving) (record { leaves = refl; pairs = refl; locks = refl })
+      from s (record s { resolving = [] }) (rows.resolvings_go (record s { resolving = [] }) y n s.resolving)
+      (record { leaves = refl; pairs = refl; locks = refl })
       (resolvings (record s { resolving = [] }) y n s.resolving)
 
   -- a notice, behind its order's part

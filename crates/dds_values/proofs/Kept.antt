@@ -52,8 +52,9 @@ use Rattle.dds_values.proofs.BrickTurns.{turn-now}
 use Rattle.dds_values.proofs.Changes.{leaves-held}
 use Rattle.dds_values.proofs.Leaves.{letter-leaves}
 use Rattle.dds_values.proofs.LibraryFlags.{asked-flags, library-flags}
+use Rattle.dds_values.proofs.OwnLeaves.{own-kept, told}
 use Rattle.dds_values.proofs.Settles.{PointFits}
-use Rattle.dds_values.specs.Below.{LeavesKeepHeld, LeavesKept, OwnLeavesAt, ServersShare}
+use Rattle.dds_values.specs.Below.{LeavesKept, OwnLeavesAt, ServersShare, WhereServed}
 use Rattle.dds_values.specs.Values.{AreHeld, CallFlag, HoldsTable, LetterFlag, NodeHolds}
 use Rattle.dds_world.specs.Values.{entries_of_points}
 
@@ -174,7 +175,7 @@ module _ (z : Sizes) (few : z.bricks ≤ 64) (some : z.libraries ≤ 16) (h : Hi
       let start = starts at k h.steps in
       let both : IsBoth at (own s) = subst (own_law.NodeOk at) f.here (below.fitting.stood.own at) in
       let now = turn-now h.made (Beside at k) (op_at b.0) (talk.with_brick at u b.1).decided (besides at k) h.steps s from l
-      (letter-leaves h.made at s both.0 from l leaves) (asks-at at from l s k) start in
+      (letter-leaves h.made at s both.0 from l (own-kept h.made s from l leaves)) (asks-at at from l s k) start in
       let made = (goes h e).made in
       let more = all_kept h.made (points_of h.steps e) in
       record {
@@ -192,7 +193,7 @@ module _ (z : Sizes) (few : z.bricks ≤ 64) (some : z.libraries ≤ 16) (h : Hi
       }
 
   -- a brick is told an order
-  told-then : (at : ℕ) (o : Order) (s : BrickState) → Ordered z n at o s → LeavesKeepHeld h.made s (brick_input s o).state → Then (brick_told at o s)
+  told-then : (at : ℕ) (o : Order) (s : BrickState) → Ordered z n at o s → WhereServed h.made s (brick_input s o).state → Then (brick_told at o s)
   told-then at o s f leaves =
       let u = (brick_input s o).state in
       let w = order-rests {L = Any} s o in
@@ -202,7 +203,7 @@ module _ (z : Sizes) (few : z.bricks ≤ 64) (some : z.libraries ≤ 16) (h : Hi
       rests (brick_told at o s) f refl
       (λ live.
       let alive : s.stopped ≡ false = sym lives ∙ live in
-      leaves-held h.made s u pending (stood-covered below.fitting.stood f.here) leaves
+      leaves-held h.made s u pending (stood-covered below.fitting.stood f.here) (told h.made s o leaves)
       (subst (NodeHolds h.made) f.here (held.is.nodes at) alive))
       (sent-news h.made z at (brick_input s o).out.letters
       (silent-flags h.made (brick_input s o).out.letters (orders-silent (brick_input s o).out.letters w.letters)))
@@ -224,7 +225,8 @@ module _ (z : Sizes) (few : z.bricks ≤ 64) (some : z.libraries ≤ 16) (h : Hi
       (library-flags h.made h.callers at s from l f.live (own-calls z h n b at s below.stands f.here)
       (first-all (LetterFlag h.made) z n at from l f.letter (held.is.sent from at)) (subst (NodeHolds h.made) f.here (held.is.nodes at)))
       (sent-news h.made z at (live_library_turn s from l).out.letters
-      (sent-flags h.made s.number s.next (live_library_turn s from l).state.next (live_library_turn s from l).out.letters (turn-sends s from l).sends.each)) (λ i t e. held.is.noted i t e)
+      (sent-flags h.made s.number s.next (live_library_turn s from l).state.next (live_library_turn s from l).out.letters
+      (turn-sends s from l).sends.each)) (λ i t e. held.is.noted i t e)
   held-then (library_asked at caller call o s) f leaves after =
       rests (library_asked at caller call o s) f refl (asked-flags h.made s caller call o (subst (NodeHolds h.made) f.here (held.is.nodes at)))
       (sent-news h.made z at (asked_turn s caller call o).out.letters

@@ -38,8 +38,8 @@ use Rattle.dds_states.specs.Turn.{BrickTurn, still}
 use Rattle.dds_states.specs.declared.brick_state.BrickState.{BrickState}
 use Rattle.dds_states.specs.declared.brick_state.OpenOrder.{OpenOrder}
 use Rattle.dds_trie.specs.Trie.{LeafMap, name_at}
-use Rattle.dds_values.proofs.Changes.{LeavesAt}
-use Rattle.dds_values.specs.Below.{LeavesKeepHeld, OwnLeavesAt}
+use Rattle.dds_values.proofs.Changes.{LeavesAt, OwnKept}
+use Rattle.dds_values.specs.Below.{LeavesKeepHeld}
 
 -- A leaf that a brick gets instead of its own covers only keys that its own leaf covered.
 
@@ -202,7 +202,7 @@ module _ (made : List Made) (me : ℕ) (s : BrickState) (mine_is : IsOwn me (own
       (same-keeps made s s refl refl)
 
   -- all but those at which the brick's own order goes on
-  pub letter-leaves : (from : NodeNo) (l : Letter) → OwnLeavesAt made s from l → LeavesAt made s from l
+  pub letter-leaves : (from : NodeNo) (l : Letter) → OwnKept made s from l → LeavesAt made s from l
   letter-leaves from (letter.Push leaf) k = push-keeps leaf
   letter-leaves from (letter.Lease number what) k = lease-keeps from number what
   letter-leaves from (letter.Granted number leaf) k = k

@@ -12,6 +12,8 @@ pub mod Folds
 pub mod Turns
 pub mod Changes
 pub mod Leaves
+pub mod Serves
+pub mod OwnLeaves
 pub mod BrickTurns
 pub mod BrickFlags
 pub mod LibraryFlags

@@ -13,8 +13,11 @@ use Rattle.dds_letters.specs.declared.letter.Letter.{Letter}
 use Rattle.dds_letters.specs.declared.letter.Letter.TheVariants as letter
 use Rattle.dds_net.specs.Event.{Event, History, brick_takes, brick_told}
 use Rattle.dds_net.specs.Net.{Net, a_brick}
+use Rattle.dds_order_rows.specs.OwnOrder.{serving}
+use Rattle.dds_serving.specs.Once.{IsOpen}
 use Rattle.dds_states.specs.Leaf.{leaf_for}
 use Rattle.dds_states.specs.declared.brick_state.BrickState.{BrickState}
+use Rattle.dds_states.specs.declared.brick_state.OpenOrder.{OpenOrder}
 use Rattle.dds_values.specs.Values.{bound_in}
 
 pub record LiveBrick (n : Net) (k : ℕ) (s : BrickState) : Type 0 where
@@ -38,16 +41,26 @@ pub record LeavesKeepHeld (made : List Made) (s u : BrickState) : Type 0 where
   pub comes :
       (key : ℕ) → is_some (leaf_for u.leaves key) ≡ true → is_some (leaf_for s.leaves key) ≡ false → get u.pairs key ≡ bound_in made key
 
--- so it is at a letter at which the brick's own order goes on: for a notice, where that has gone on
+-- one order at two moments
+abbrev pub IsAs : OpenOrder → OpenOrder → Type 0
+IsAs p o = (o.name ≡ p.name) × (o.task ≡ p.task)
+
+-- so it is where the leaf that the brick's own order made is served: as the order was open, or is a split that opens in the turn
+abbrev pub WhereServed : List Made → BrickState → BrickState → Type 0
+WhereServed made s u =
+    (p o : OpenOrder) (leaf : Leaf) → IsOpen s p → IsAs p o → u.leaves ≡ (serving s o leaf o.task).leaves → u.pairs ≡ (serving s o leaf o.task).pairs
+    → LeavesKeepHeld made s u
+
+-- at a letter at which the own order goes on: for a notice, where that has gone on
 abbrev pub OwnLeavesAt : List Made → BrickState → NodeNo → Letter → Type 0
-OwnLeavesAt made s from (letter.Granted number leaf) = LeavesKeepHeld made s (live_brick_turn s from (letter.Granted number leaf)).state
-OwnLeavesAt made s from (letter.CopyPart number last pairs) = LeavesKeepHeld made s (live_brick_turn s from (letter.CopyPart number last pairs)).state
-OwnLeavesAt made s from (letter.Installed number name) = LeavesKeepHeld made s (live_brick_turn s from (letter.Installed number name)).state
-OwnLeavesAt made s from letter.Notice = LeavesKeepHeld made s (order_part (learns s from) from).state
+OwnLeavesAt made s from (letter.Granted number leaf) = WhereServed made s (live_brick_turn s from (letter.Granted number leaf)).state
+OwnLeavesAt made s from (letter.CopyPart number last pairs) = WhereServed made s (live_brick_turn s from (letter.CopyPart number last pairs)).state
+OwnLeavesAt made s from (letter.Installed number name) = WhereServed made s (live_brick_turn s from (letter.Installed number name)).state
+OwnLeavesAt made s from letter.Notice = WhereServed made s (order_part (learns s from) from).state
 OwnLeavesAt made s from other = Unit {0}
 
 -- and at an event
 abbrev pub LeavesKept : History → Event → Type 0
 LeavesKept h (brick_takes at from l s) = OwnLeavesAt h.made s from l
-LeavesKept h (brick_told at o s) = LeavesKeepHeld h.made s (brick_input s o).state
+LeavesKept h (brick_told at o s) = WhereServed h.made s (brick_input s o).state
 LeavesKept h other = Unit {0}
