@@ -23,6 +23,7 @@ use Rattle.dds_pending.proofs.Keeps.{fitting-kept}
 use Rattle.dds_pending.proofs.Runs.{start-fitting}
 use Rattle.dds_script.specs.Opening.{IsOpening, OpeningOf}
 use Rattle.dds_talk.specs.Books as talk
+use Rattle.dds_values.proofs.Histories.{legal-history}
 use Rattle.dds_values.proofs.Kept.{Below, Held, held-then}
 use Rattle.dds_values.specs.Held.{AllGiven, HeldWhereGiven}
 use Rattle.dds_values.specs.Values.{LetterFlag, NodeHolds}
@@ -122,5 +123,6 @@ held-where-given o journal h run given =
     let w = went-all o [] journal journal h given refl (start-along o h) run in
     record {
       legal = w.held.is.legal;
+      history_is = legal-history (run_of o journal) w.held.is.legal;
       bricks = λ k s there live. subst (NodeHolds (run_of o journal).made) (brick-node (run_of o journal).world k s there) (w.held.is.nodes k) live;
     }

@@ -10,6 +10,7 @@ use Rattle.dds_script.specs.Opening.{IsOpening, OpeningOf}
 use Rattle.dds_states.specs.declared.brick_state.BrickState.{BrickState}
 use Rattle.dds_values.specs.Below.{LeavesKept, ServersShare}
 use Rattle.dds_values.specs.Values.{HoldsTable}
+use Rattle.dds_world.specs.Stands.{history}
 use Rattle.dds_world.specs.Values.{entries_of_points}
 
 -- of the world before a step and of the event that the step is: bricks that serve a key list each other, and where an own order of the brick goes
@@ -23,9 +24,11 @@ abbrev pub AllGiven : OpeningOf → List Step → Type 0
 AllGiven o journal =
     (was more : List Step) (x : Step) (e : Event) → was ++ x ∷ more ≡ journal → IsNext o was x e → IsGiven o was e
 
--- the points are legal, reads that no answer used among them; and each live brick has what they left, but for the keys of what is pending
+-- the points are legal, reads that no answer used among them, and so is the history; and each live brick has what the points left, but for the
+-- keys of what is pending
 pub record ValuesHeld (o : OpeningOf) (journal : List Step) : Type 0 where
   pub legal : IsLegal (entries_of_points (run_of o journal).made)
+  pub history_is : IsLegal (history (run_of o journal))
   pub bricks :
       (k : ℕ) (s : BrickState) → brick_at (run_of o journal).world k ≡ Some s → s.stopped ≡ false → HoldsTable (run_of o journal).made s
 
