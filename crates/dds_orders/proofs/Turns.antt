@@ -295,7 +295,7 @@ with-some s y (Some o) e k =
           (sym (ap (λ q. record (seat s) { own = record (own s) { order = q } }) e)) (own_rows.order_goes (record s { order = None }) o y o.phase refl k).path;
     }
 
-order_part : (s : BrickState) (y : NodeNo) → has_node s.known y ≡ true → Goes (seat s) (notices.order_part s y)
+pub order_part : (s : BrickState) (y : NodeNo) → has_node s.known y ≡ true → Goes (seat s) (notices.order_part s y)
 order_part s y k = goes-if _ (with-some s y s.order refl k) (plain _ refl tt)
 
 notice_row : (s : BrickState) (y : NodeNo) → y < 80 → (y ≡ s.number → ⊥) → Turns y (seat s) letter.Notice (notices.notice_row s y)
