@@ -1,0 +1,5 @@
+pub mod Bindings
+pub mod Copies
+pub mod Parts
+pub mod Keeps
+pub mod Apart

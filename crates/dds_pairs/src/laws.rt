@@ -1,0 +1,17 @@
+//! The laws, as contracts of functions that do nothing.
+
+ghost use Rattle.dds_pairs.specs.Apart.{JoinsStandApart};
+ghost use Rattle.dds_pairs.specs.Copied.{CopiedPairsRise};
+
+/// In each world of each run, of each brick with an open join: none of its leaves has a key in common with the join's name, and no
+/// update is pending on a key under that name.
+pub fn joins_stand_apart()
+    ensures { JoinsStandApart }
+{}
+
+/// In each world of each run, of each brick's open order: the pairs that it has copied lie under the order's name, each one's place is
+/// behind that of the one before it, and there are none while the order waits for leases; and the pairs of each part that is on its way
+/// stand in that order too.
+pub fn copied_pairs_rise()
+    ensures { CopiedPairsRise }
+{}
