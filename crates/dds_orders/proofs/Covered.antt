@@ -78,7 +78,7 @@ or-second : (x y : Option Leaf) → is_some y ≡ true → is_some (or_else x y)
 or-second None y h = h
 or-second (Some leaf) y h = refl
 
-finds : (m : LeafMap) (n key d : ℕ) → d ≤ n → Has m (name_at key d) → is_some (leaf_within m n key) ≡ true
+pub finds : (m : LeafMap) (n key d : ℕ) → d ≤ n → Has m (name_at key d) → is_some (leaf_within m n key) ≡ true
 finds m zero key d le h =
     let is : d ≡ 0 = omega (arith, le) in
     ap is_some (within-none m key) ∙ subst (λ i. Has m (name_at key i)) is h

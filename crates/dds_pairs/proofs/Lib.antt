@@ -3,3 +3,7 @@ pub mod Copies
 pub mod Parts
 pub mod Keeps
 pub mod Apart
+pub mod Names
+pub mod NameOrders
+pub mod NameTurns
+pub mod NameKeeps

@@ -2,6 +2,7 @@
 
 ghost use Rattle.dds_pairs.specs.Apart.{JoinsStandApart};
 ghost use Rattle.dds_pairs.specs.Copied.{CopiedPairsRise};
+ghost use Rattle.dds_pairs.specs.Names.{LeavesHaveNames};
 
 /// In each world of each run, of each brick with an open join: none of its leaves has a key in common with the join's name, and no
 /// update is pending on a key under that name.
@@ -14,4 +15,10 @@ pub fn joins_stand_apart()
 /// stand in that order too.
 pub fn copied_pairs_rise()
     ensures { CopiedPairsRise }
+{}
+
+/// In each world of each run, with stops, splits and joins, wherever leaves stand: a leaf's name is one of a partition, at most 16 bits deep
+/// and with no more bits than its depth.
+pub fn leaves_have_names()
+    ensures { LeavesHaveNames }
 {}
