@@ -38,7 +38,7 @@ pub rise-from : (after : Option ℕ) (ps : List Pair) → rise_after None ps ≡
 rise-from after [] h k = refl
 rise-from after (p ∷ ps) h k = and_from (is_after after p.key) (rise_after (Some p.key) ps) k h
 
-all-pass : (test : Pair → Bool) (ps : List Pair) → list_all test ps ≡ true → AllByRecursion (λ p. test p ≡ true) ps
+pub all-pass : (test : Pair → Bool) (ps : List Pair) → list_all test ps ≡ true → AllByRecursion (λ p. test p ≡ true) ps
 all-pass test [] h = tt
 all-pass test (p ∷ ps) h = let parts = and_parts (test p) (list_all test ps) h in (parts.0, all-pass test ps parts.1)
 

@@ -7,3 +7,8 @@ pub mod Names
 pub mod NameOrders
 pub mod NameTurns
 pub mod NameKeeps
+pub mod Grows
+pub mod Keys
+pub mod Binds
+pub mod Lies
+pub mod LieKeeps

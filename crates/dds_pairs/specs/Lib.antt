@@ -1,3 +1,4 @@
 pub mod Names
+pub mod Lie
 pub mod Apart
 pub mod Copied

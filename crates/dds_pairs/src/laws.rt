@@ -2,6 +2,7 @@
 
 ghost use Rattle.dds_pairs.specs.Apart.{JoinsStandApart};
 ghost use Rattle.dds_pairs.specs.Copied.{CopiedPairsRise};
+ghost use Rattle.dds_pairs.specs.Lie.{PairsLieUnderLeaves};
 ghost use Rattle.dds_pairs.specs.Names.{LeavesHaveNames};
 
 /// In each world of each run, of each brick with an open join: none of its leaves has a key in common with the join's name, and no
@@ -21,4 +22,9 @@ pub fn copied_pairs_rise()
 /// and with no more bits than its depth.
 pub fn leaves_have_names()
     ensures { LeavesHaveNames }
+{}
+
+/// In each world of each run, with stops, splits and joins, of each brick: each key that it has bound is covered by a leaf of its own.
+pub fn pairs_lie_under_leaves()
+    ensures { PairsLieUnderLeaves }
 {}
