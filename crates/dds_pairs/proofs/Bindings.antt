@@ -24,7 +24,7 @@ bound_by (p ∷ ps) key = cond (p.key == key) (Some p.value) (bound_by ps key)
 pub same-key : (a b : ℕ) → (a == b) ≡ true → a ≡ b
 same-key a b e = grind (arith, nat_tests, e)
 
-self-key : (a : ℕ) → (a == a) ≡ true
+pub self-key : (a : ℕ) → (a == a) ≡ true
 self-key a = grind (arith, nat_tests)
 
 one-first : (b c p q : ℕ) → (nat_lt b c || (b == c && nat_lt p q)) ≡ false → (q == p) ≡ false → (nat_lt c b || (c == b && nat_lt q p)) ≡ true
