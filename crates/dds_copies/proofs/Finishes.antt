@@ -1,8 +1,7 @@
-use Rattle.std.proofs.Common.{◌≡◌, ℕ, ◌==◌, ◌&&◌, Bool, true, false, cond, Option, Some, None, List, [], ◌∷◌, refl, sym, ap, ◌∙◌, subst}
-use Rattle.std.proofs.lemmas.Bool.{and_parts, both_ways}
+use Rattle.std.proofs.Common.{◌≡◌, ℕ, ◌==◌, ◌&&◌, Bool, true, false, cond, Option, Some, None, List, [], ◌∷◌, refl, ap, ◌∙◌, subst}
+use Rattle.std.proofs.lemmas.Bool.{and_parts}
 use Rattle.std.specs.FinMap.{get, insert}
-use Rattle.std.specs.Prelude.{is_some}
-use Rattle.dds_base.specs.Name.{Name, covers}
+use Rattle.dds_base.specs.Name.{covers}
 use Rattle.dds_base.specs.Place.{is_after, is_before, rise_after}
 use Rattle.dds_base.specs.declared.pair.Pair.{Pair}
 use Rattle.dds_history.proofs.Bindings.{get-bound}

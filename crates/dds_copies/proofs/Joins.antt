@@ -2,11 +2,9 @@ use Rattle.std.proofs.Common.{◌≡◌, ℕ, ◌+◌, ◌==◌, ◌&&◌, ◌++
 use Rattle.std.proofs.lemmas.Bool.{and_parts, eqb-true}
 use Rattle.std.specs.List.{AllByRecursion}
 use Rattle.std.specs.Prelude.{if◌then◌else◌}
-use Rattle.dds_base.specs.Place.{last_key}
 use Rattle.dds_base.specs.declared.leaf.Leaf.{Leaf}
 use Rattle.dds_base.specs.declared.number.NodeNo.{NodeNo}
 use Rattle.dds_base.specs.declared.pair.Pair.{Pair}
-use Rattle.dds_brick_rows.specs.Refusal.{is_join}
 use Rattle.dds_core.specs.Brick.{live_brick_turn}
 use Rattle.dds_history.specs.Map.{Map}
 use Rattle.dds_letters.specs.declared.letter.Letter.{Letter}
@@ -16,7 +14,6 @@ use Rattle.dds_order_rows.specs.OwnOrder as order
 use Rattle.dds_states.specs.Turn.{BrickTurn, still, to_each, unknown, without}
 use Rattle.dds_states.specs.declared.brick_state.BrickState.{BrickState}
 use Rattle.dds_states.specs.declared.brick_state.OpenOrder.{OpenOrder}
-use Rattle.dds_states.specs.declared.brick_state.OrderPhase.{OrderPhase}
 use Rattle.dds_states.specs.declared.brick_state.OrderPhase.TheVariants.{Copying, Installing}
 use Rattle.dds_world.specs.Values.{AreCopied}
 use Rattle.dds_copies.proofs.Parts.{all-copied, more-copied, with_part}

@@ -5,3 +5,4 @@ pub mod Points
 pub mod Joins
 pub mod Finishes
 pub mod Steps
+pub mod Ends

@@ -1,16 +1,14 @@
-use Rattle.std.proofs.Common.{◌≡◌, ℕ, zero, suc, ◌≤◌, ◌++◌, Bool, true, false, Option, Some, None, List, [], ◌∷◌, refl, sym, ap, ◌∙◌, subst, append_assoc, arith}
+use Rattle.std.proofs.Common.{◌≡◌, ℕ, zero, suc, ◌≤◌, ◌++◌, Bool, true, None, List, [], ◌∷◌, refl, sym, ap, ◌∙◌, append_assoc, arith}
 use Rattle.std.proofs.lemmas.Bool.Decides.{nat_tests}
-use Rattle.std.proofs.lemmas.List.{append-nil, take-append-drop}
+use Rattle.std.proofs.lemmas.List.{take-append-drop}
 use Rattle.std.specs.Prelude.{drop, length, nat_le, take}
-use Rattle.dds_base.specs.Place.{last_key}
-use Rattle.dds_base.specs.declared.leaf.Leaf.{Leaf}
 use Rattle.dds_base.specs.declared.number.NodeNo.{NodeNo}
 use Rattle.dds_base.specs.declared.pair.Pair.{Pair}
 use Rattle.dds_history.specs.Map.{Map}
 use Rattle.dds_letters.specs.declared.copied_pairs.TheConstants.{COPIED}
 use Rattle.dds_order_rows.specs.Orders.{pairs_after}
 use Rattle.dds_states.specs.declared.brick_state.OpenOrder.{OpenOrder}
-use Rattle.dds_states.specs.declared.brick_state.OrderPhase.TheVariants.{Copying, Installing}
+use Rattle.dds_states.specs.declared.brick_state.OrderPhase.TheVariants.{Copying}
 use Rattle.dds_world.specs.Values.{AreCopied}
 use Rattle.dds_copies.proofs.Tables.{rest-after}
 use Rattle.dds_copies.specs.Copies.{IsNextPart, rest_of}

@@ -1,4 +1,4 @@
-use Rattle.std.proofs.Common.{◌≡◌, ℕ, ◌==◌, ◌&&◌, ◌||◌, Bool, true, false, cond, Option, Some, None, List, [], ◌∷◌, refl, sym, ap, ◌∙◌, subst}
+use Rattle.std.proofs.Common.{◌≡◌, ℕ, ◌==◌, ◌&&◌, ◌||◌, Bool, true, false, Option, Some, None, List, [], ◌∷◌, refl, ap, ◌∙◌, subst}
 use Rattle.std.proofs.lemmas.Bool.{both_ways}
 use Rattle.std.specs.FinMap.{get}
 use Rattle.std.specs.List.{AllByRecursion}
@@ -23,7 +23,7 @@ use Rattle.dds_states.specs.Leaf.{leaf_for}
 use Rattle.dds_states.specs.Turn.{still}
 use Rattle.dds_states.specs.declared.brick_state.BrickState.{BrickState}
 use Rattle.dds_states.specs.declared.brick_state.OpenOrder.{OpenOrder}
-use Rattle.dds_values.specs.Values.{HoldsTable, IsHeldAt, before, bound_in, table}
+use Rattle.dds_values.specs.Values.{HoldsTable, before, bound_in, table}
 use Rattle.dds_copies.proofs.Tables.{same-under}
 use Rattle.dds_copies.specs.Copies.{AsksNext, HoldsUnder, IsNextPart, TellsNext, rest_of}
 

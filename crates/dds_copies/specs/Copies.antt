@@ -1,6 +1,6 @@
 -- What an open join has copied, of a cluster's nodes and channels and the table that the points leave: a record of named parts, of which
 -- no law of runs is proved yet.
-use Rattle.std.specs.Prelude.{ℕ, ◌≡◌, Bool, true, false, List, [], ◌∷◌, Option, Some, None, length, nat_le, take}
+use Rattle.std.specs.Prelude.{ℕ, ◌≡◌, Bool, true, false, List, [], ◌∷◌, Some, None, length, nat_le, take}
 use Rattle.std.specs.FinMap.{get}
 use Rattle.std.specs.List.{AllByRecursion}
 use Rattle.dds_base.specs.Name.{Name, covers}
@@ -53,13 +53,16 @@ pub data IsBound (n : Net) (k : ℕ) (o : OpenOrder) : Type 0 where
   has_some : (source : NodeNo) → o.phase ≡ Copying source → (o.copied ≡ [] → ⊥) → IsBound n k o
   has_sent : (source : NodeNo) → o.phase ≡ Copying source → PartIn o.number (n.channel source k) → IsBound n k o
 
--- | part     | what it says                                                    | why it is needed                     | what keeps it                              |
--- |----------|-----------------------------------------------------------------|--------------------------------------|--------------------------------------------|
--- | `copied` | while it copies, what was copied is a beginning of the table's  | at the join's end its brick holds    | CopyPart; what begins to copy or to        |
--- |          | pairs under its name; while it installs, it is all of them      | the table under the name             | install; no point comes under the name     |
--- | `asks`   | a CopyAsk on its way to the source carries the last key copied  | the source answers with what follows | what begins to copy; CopyPart              |
--- | `parts`  | a CopyPart on its way from the source is the next piece of the  | `copied` grows by it                 | CopyAsk, at a source that holds the table; |
--- |          | table, and the last one exactly where it reaches the end        |                                      | no point comes under the name              |
+-- | part     | what it says                                          | why it is needed                     | what keeps it                            |
+-- |----------|-------------------------------------------------------|--------------------------------------|------------------------------------------|
+-- | `copied` | while it copies, what was copied is a beginning of    | at the join's end its brick holds    | CopyPart; what begins to copy or to      |
+-- |          | the table's pairs under its name; while it installs,  | the table under the name             | install; no point comes under the name   |
+-- |          | it is all of them                                     |                                      |                                          |
+-- | `asks`   | a CopyAsk on its way to the source carries the last   | the source answers with what follows | what begins to copy; CopyPart            |
+-- |          | key copied                                            |                                      |                                          |
+-- | `parts`  | a CopyPart on its way from the source is the next     | `copied` grows by it                 | CopyAsk, at a source that holds the      |
+-- |          | piece of the table, and the last one exactly where it |                                      | table; no point comes under the name     |
+-- |          | reaches the end                                       |                                      |                                          |
 pub record CopiesTable (table : Map) (n : Net) (k : ℕ) (o : OpenOrder) : Type 0 where
   pub copied : AreCopied table o o.phase
   pub asks : (source : NodeNo) → o.phase ≡ Copying source → AllByRecursion (AsksNext o) (n.channel k source)

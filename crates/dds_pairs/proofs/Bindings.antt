@@ -122,7 +122,8 @@ chosen-binds : (c : Bool) (p : Pair) (found : List Pair) (key : ℕ) → bound_b
 chosen-binds true p found key free = ap (λ l. bound_by l key) (placed-is p found) ∙ placing-binds p found key free
 chosen-binds false p found key free = same-both (p.key == key) (bound_by found key)
 
-chosen-rises : (c : Bool) (p : Pair) (found : List Pair) → bound_by found p.key ≡ None → rise_after None found ≡ true → rise_after None (chosen c p found) ≡ true
+chosen-rises : (c : Bool) (p : Pair) (found : List Pair) → bound_by found p.key ≡ None → rise_after None found ≡ true
+    → rise_after None (chosen c p found) ≡ true
 chosen-rises true p found free h = subst (λ l. rise_after None l ≡ true) (sym (placed-is p found)) (placing-rises None p found h refl free)
 chosen-rises false p found free h = h
 

@@ -1,4 +1,4 @@
-use Rattle.std.proofs.Common.{◌≡◌, ℕ, ◌+◌, ◌-◌, ◌%◌, ◌^◌, ◌<◌, ◌≤◌, ◌==◌, ◌&&◌, ◌||◌, ◌⊎◌, inl, inr, Bool, true, false, not, cond, Option, Some, None}
+use Rattle.std.proofs.Common.{◌≡◌, ℕ, ◌+◌, ◌-◌, ◌%◌, ◌^◌, ◌<◌, ◌≤◌, ◌==◌, ◌&&◌, ◌||◌, ◌⊎◌, inl, inr, Bool, true, false, cond, Option, Some, None}
 use Rattle.std.proofs.Common.{refl, sym, ap, ◌∙◌, subst, arith}
 use Rattle.std.proofs.Math.Nat.{mod-eq-sub-mod, mod-eq_of_lt, mod-lt}
 use Rattle.std.proofs.lemmas.Bool.{both_ways, cases_Bool, eq-eqb, eqb-true}
@@ -15,9 +15,9 @@ use Rattle.dds_groups.specs.Leaves.{sibling}
 use Rattle.dds_groups.specs.Names.{high_half, low_half, other_half}
 use Rattle.dds_law_leaf.proofs.Book.{InMap}
 use Rattle.dds_law_leaf.proofs.Maps.{each-is}
-use Rattle.dds_law_own.proofs.Changes.{Own, own}
+use Rattle.dds_law_own.proofs.Changes.{own}
 use Rattle.dds_law_own.proofs.Disjoint.{Has, Replaces, half, replaces, same_name}
-use Rattle.dds_law_own.proofs.Halves.{twice, whole-few}
+use Rattle.dds_law_own.proofs.Halves.{twice}
 use Rattle.dds_law_own.proofs.Parted.{IsBoth}
 use Rattle.dds_maps.specs.Own.{whole}
 use Rattle.dds_orders.proofs.Covered.{finds}

@@ -15,10 +15,10 @@ use Rattle.dds_brick_rows.specs.declared.resolution.News.{News}
 use Rattle.dds_brick_rows.specs.declared.resolution.News.TheVariants as news
 use Rattle.dds_core.specs.Notice as notices
 use Rattle.dds_history.proofs.Bindings.{get-after}
-use Rattle.dds_history.specs.Map.{Map, after, bound_after, bound_by}
+use Rattle.dds_history.specs.Map.{Map, after, bound_after}
 use Rattle.dds_law_own.proofs.Lists.{all-first}
 use Rattle.dds_letters.specs.declared.letter.Letter.TheVariants as letter
-use Rattle.dds_locks.specs.Pending.{first_of, is_numbered, without}
+use Rattle.dds_locks.specs.Pending.{first_of, is_numbered}
 use Rattle.dds_states.specs.Turn.{BrickTurn, still, sends, is_none_left, unknown}
 use Rattle.dds_states.specs.declared.brick_state.BrickState.{BrickState}
 use Rattle.dds_states.specs.declared.brick_state.Deferred.{Deferred}

@@ -1,8 +1,7 @@
-use Rattle.std.proofs.Common.{◌≡◌, ℕ, ◌≤◌, true, Option, Some, None, List, [], refl, sym, ap, ◌∙◌, subst}
+use Rattle.std.proofs.Common.{◌≡◌, ℕ, ◌≤◌, true, List, [], refl, sym, ap, ◌∙◌, subst}
 use Rattle.std.specs.FinMap.{get, get-empty}
 use Rattle.std.specs.Ordering.{nat_cmp}
 use Rattle.std.specs.Prelude.{is_some, if◌then◌else◌}
-use Rattle.dds_base.specs.declared.number.NodeNo.{NodeNo}
 use Rattle.dds_cluster.proofs.Sizes.{sized-start}
 use Rattle.dds_cluster.specs.Trace.{is_run, start}
 use Rattle.dds_cluster.specs.World.{emptied}
@@ -12,7 +11,6 @@ use Rattle.dds_core.specs.Brick.{brick_input, live_brick_turn}
 use Rattle.dds_law_own.proofs.Changes.{own}
 use Rattle.dds_law_own.proofs.Keeps.{NodeOk}
 use Rattle.dds_law_own.proofs.Parted.{IsBoth}
-use Rattle.dds_letters.specs.declared.letter.Letter.{Letter}
 use Rattle.dds_net.proofs.Carried.{Becomes, nodes-moved}
 use Rattle.dds_net.proofs.Nodes.{brick-node}
 use Rattle.dds_net.proofs.Opening.{IsNew, new_a_brick, new_a_library, no_node, start-node}
@@ -24,7 +22,6 @@ use Rattle.dds_net.specs.Net.{Net, Node, nowhere, a_brick, a_library, Sizes, net
 use Rattle.dds_orders.proofs.Stood.{AreStood, NodeStands, run-stood, stood-kept}
 use Rattle.dds_pending.proofs.Leads.{letter-leads, order-leads}
 use Rattle.dds_script.specs.Opening.{IsOpening, OpeningOf}
-use Rattle.dds_states.specs.declared.brick_state.BrickState.{BrickState}
 use Rattle.dds_world.specs.Places.{reached}
 use Rattle.dds_pairs.proofs.Binds.{told}
 use Rattle.dds_pairs.proofs.Grows.{leads-grows}

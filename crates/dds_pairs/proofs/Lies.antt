@@ -1,4 +1,4 @@
-use Rattle.std.proofs.Common.{◌≡◌, ℕ, ◌≤◌, ◌==◌, ◌&&◌, Bool, true, false, cond, Option, Some, None, List, [], ◌∷◌, refl, sym, ap, ◌∙◌, subst}
+use Rattle.std.proofs.Common.{◌≡◌, ℕ, ◌==◌, ◌&&◌, Bool, true, false, cond, Option, Some, None, List, [], ◌∷◌, refl, sym, ap, ◌∙◌, subst}
 use Rattle.std.specs.FinMap.{get, insert}
 use Rattle.std.specs.List.{AllByRecursion}
 use Rattle.std.specs.Prelude.{is_some, if◌then◌else◌}
@@ -36,10 +36,10 @@ use Rattle.dds_locks.specs.Leases.{is_given, lease_of}
 use Rattle.dds_maps.specs.Own.{own_leaf}
 use Rattle.dds_order_rows.specs.OwnOrder.{bound}
 use Rattle.dds_order_rows.specs.Orders as orders
-use Rattle.dds_orders.proofs.Covered.{Covering, Covers}
+use Rattle.dds_orders.proofs.Covered.{Covers}
 use Rattle.dds_orders.proofs.Over.{has-itself}
 use Rattle.dds_states.specs.Leaf.{leaf_for}
-use Rattle.dds_states.specs.Turn.{BrickTurn, sends, still}
+use Rattle.dds_states.specs.Turn.{BrickTurn}
 use Rattle.dds_states.specs.declared.brick_state.BrickState.{BrickState}
 use Rattle.dds_trie.specs.Trie.{LeafMap, put}
 use Rattle.dds_pairs.proofs.Bindings.{same-key}
@@ -79,7 +79,8 @@ bound-if P m p key false e h k b = h key b
 bound-keys : (P : ℕ → Type 0) (ps : List Pair) (m : Map) → AllByRecursion (λ (p : Pair). P p.key) ps → KeysIn P m → KeysIn P (bound m ps)
 bound-keys P [] m all h = h
 bound-keys P (p ∷ ps) m all h =
-    bound-keys P ps (insert m p.key p.value) all.1 (λ key b. bound-if P m p key (p.key == key) refl h all.0 (sym (ap is_some (get-bound m p.key p.value key)) ∙ b))
+    bound-keys P ps (insert m p.key p.value) all.1
+    (λ key b. bound-if P m p key (p.key == key) refl h all.0 (sym (ap is_some (get-bound m p.key p.value key)) ∙ b))
 
 -- beside the leaf that is served
 under-covered : (m k : LeafMap) (made : Leaf) (name : Name) (ps : List Pair) → k ≡ put m made → made.name ≡ name → Keyed k → InMap IsFit k → AllUnder name ps

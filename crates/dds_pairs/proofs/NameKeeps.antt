@@ -1,4 +1,4 @@
-use Rattle.std.proofs.Common.{◌≡◌, ℕ, ◌≤◌, ◌⊎◌, inl, inr, true, Option, Some, None, List, [], ◌∷◌, refl, sym, ap, subst}
+use Rattle.std.proofs.Common.{◌≡◌, ℕ, ◌≤◌, ◌⊎◌, inl, inr, true, Option, Some, List, [], refl, sym, subst}
 use Rattle.std.specs.FinMap.{get}
 use Rattle.std.specs.List.{AllByRecursion}
 use Rattle.std.specs.Prelude.{filter, ◌+◌, ◌-◌, ◌==◌}
@@ -7,11 +7,10 @@ use Rattle.dds_base.specs.declared.leaf.Leaf.{Leaf}
 use Rattle.dds_base.specs.declared.number.NodeNo.{NodeNo}
 use Rattle.dds_cluster.proofs.Sizes.{IsSized, sized-start}
 use Rattle.dds_cluster.specs.Trace.{is_run, start}
-use Rattle.dds_cluster.specs.World.{World, new_brick, new_library}
+use Rattle.dds_cluster.specs.World.{World, new_brick}
 use Rattle.dds_cluster.specs.declared.step.Step.{Step}
 use Rattle.dds_cluster.specs.declared.trace.Caller.{Caller}
 use Rattle.dds_core.proofs.Lists.{all-filter, all-is, all-map}
-use Rattle.dds_core.specs.Brick.{brick_input, live_brick_turn}
 use Rattle.dds_law_leaf.proofs.Book.{Each, InCall, InLetter, InLibrary, InMap}
 use Rattle.dds_law_leaf.proofs.Libraries.{asked-goes, library-goes}
 use Rattle.dds_law_leaf.proofs.Maps.{each-is, in-all, in-empty}
@@ -21,7 +20,6 @@ use Rattle.dds_law_own.proofs.Lists.{each-is as each-named}
 use Rattle.dds_law_own.proofs.Owned.{Named}
 use Rattle.dds_law_own.proofs.Parted.{IsBoth}
 use Rattle.dds_letters.specs.declared.letter.Letter.{Letter}
-use Rattle.dds_letters.specs.declared.letter.Letter.TheVariants as letter
 use Rattle.dds_net.proofs.Carried.{AllCarried, Becomes, News, Sends, letters-moved, nodes-moved}
 use Rattle.dds_net.proofs.Letters.{first-all}
 use Rattle.dds_net.proofs.Nodes.{brick-node, library-node}

@@ -1,11 +1,8 @@
-use Rattle.std.proofs.Common.{◌≡◌, ℕ, ◌+◌, ◌==◌, ◌||◌, ◌++◌, Bool, true, false, not, Option, Some, None, List, [], ◌∷◌, refl, ap, arith}
-use Rattle.std.proofs.lemmas.Bool.{and_parts}
+use Rattle.std.proofs.Common.{◌≡◌, ℕ, ◌+◌, ◌==◌, ◌++◌, Bool, true, false, Option, Some, None, List, [], ◌∷◌, refl, ap, arith}
 use Rattle.std.proofs.lemmas.Bool.Decides.{nat_tests}
 use Rattle.std.specs.FinMap.{get}
-use Rattle.std.specs.Prelude.{filter, is_some, if◌then◌else◌}
-use Rattle.dds_base.specs.BrickList.{has}
+use Rattle.std.specs.Prelude.{is_some, if◌then◌else◌}
 use Rattle.dds_base.specs.Name.{Name}
-use Rattle.dds_base.specs.NodeSet.{has_node}
 use Rattle.dds_base.specs.declared.leaf.Leaf.{Leaf}
 use Rattle.dds_base.specs.declared.number.NodeNo.{NodeNo}
 use Rattle.dds_base.specs.declared.op.Met.TheVariants as met
@@ -13,7 +10,6 @@ use Rattle.dds_base.specs.declared.op.OrderReply.{OrderReply}
 use Rattle.dds_base.specs.declared.op.OrderReply.TheVariants as answered
 use Rattle.dds_base.specs.declared.pair.Pair.{Pair}
 use Rattle.dds_brick_rows.specs.Refusal.{is_join}
-use Rattle.dds_groups.proofs.Members.{has-live}
 use Rattle.dds_groups.specs.Leaves.{sibling}
 use Rattle.dds_letters.specs.declared.letter.Letter.TheVariants as letter
 use Rattle.dds_letters.specs.declared.refusal.Refusal.{Refusal}

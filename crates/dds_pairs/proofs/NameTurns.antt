@@ -1,9 +1,9 @@
-use Rattle.std.proofs.Common.{◌≡◌, ℕ, ◌≤◌, ◌==◌, Bool, true, false, not, Option, Some, None, List, [], ◌∷◌, refl, ap}
+use Rattle.std.proofs.Common.{◌≡◌, ℕ, ◌≤◌, ◌==◌, Bool, true, false, Option, Some, None, [], ◌∷◌, refl, ap}
 use Rattle.std.proofs.lemmas.Bool.{both_ways, eq-eqb}
 use Rattle.std.specs.FinMap.{get}
-use Rattle.std.specs.Prelude.{is_some, if◌then◌else◌}
+use Rattle.std.specs.Prelude.{if◌then◌else◌}
 use Rattle.dds_base.specs.Name.{Name}
-use Rattle.dds_base.specs.Number.{Txn, StampOf}
+use Rattle.dds_base.specs.Number.{Txn}
 use Rattle.dds_base.specs.declared.leaf.Leaf.{Leaf}
 use Rattle.dds_base.specs.declared.number.NodeNo.{NodeNo}
 use Rattle.dds_base.specs.declared.op.Order.{Order}
@@ -11,7 +11,7 @@ use Rattle.dds_base.specs.declared.op.Order.TheVariants as the_order
 use Rattle.dds_base.specs.declared.op.OrderReply.TheVariants as answered
 use Rattle.dds_base.specs.declared.pending.Pending.{Pending}
 use Rattle.dds_brick_rows.specs.Calls as calls
-use Rattle.dds_brick_rows.specs.Refusal.{as_denial, get_refusal, has_no_room, is_found, is_locked, joins_key, joins_over, lease_refusal, stale_against}
+use Rattle.dds_brick_rows.specs.Refusal.{get_refusal, has_no_room}
 use Rattle.dds_brick_rows.specs.Refusal.{update_denial, update_refusal}
 use Rattle.dds_brick_rows.specs.Take as takes
 use Rattle.dds_brick_rows.specs.declared.resolution.News.TheVariants as news
@@ -21,30 +21,25 @@ use Rattle.dds_groups.specs.Leaves.{sibling}
 use Rattle.dds_letters.specs.declared.letter.Letter.{Letter}
 use Rattle.dds_letters.specs.declared.letter.Letter.TheVariants as letter
 use Rattle.dds_letters.specs.declared.refusal.Denial.{Denial}
-use Rattle.dds_letters.specs.declared.refusal.Denial.TheVariants as denial
 use Rattle.dds_letters.specs.declared.refusal.Refusal.{Refusal}
-use Rattle.dds_letters.specs.declared.refusal.Refusal.TheVariants as refusal
 use Rattle.dds_letters.specs.declared.refusal.Wanted.{Wanted}
 use Rattle.dds_letters.specs.declared.refusal.Wanted.TheVariants as wanted
-use Rattle.dds_locks.specs.Leases.{leased, lease_covers}
-use Rattle.dds_locks.specs.Pending.{any_under}
 use Rattle.dds_maps.specs.Own.{own_leaf}
 use Rattle.dds_order_rows.specs.Orders as orders
-use Rattle.dds_states.specs.Leaf.{leaf_for}
-use Rattle.dds_states.specs.Turn.{first_some, sends, when, without}
+use Rattle.dds_states.specs.Turn.{sends, without}
 use Rattle.dds_states.specs.declared.brick_state.BrickState.{BrickState}
 use Rattle.dds_states.specs.declared.brick_state.OpenOrder.{OpenOrder}
 use Rattle.dds_states.specs.declared.brick_state.OrderPhase.{OrderPhase}
 use Rattle.dds_states.specs.declared.brick_state.OrderPhase.TheVariants.{Leasing, Copying, Installing}
 use Rattle.dds_trie.specs.Trie.{LeafMap}
-use Rattle.dds_world.specs.Groups.{denial_leaf, made_leaf, refusal_leaf}
+use Rattle.dds_world.specs.Groups.{made_leaf}
 use Rattle.dds_law_leaf.proofs.Book.{Each, InLetter, InMap}
 use Rattle.dds_law_leaf.proofs.Bricks.{OfDenial, OfRefusal, no-leaf, of-denial, of-get, of-lease, of-update}
 use Rattle.dds_law_leaf.proofs.Maps.{in-for, in-put, in-remove}
 use Rattle.dds_law_leaf.proofs.Plain as plain
 use Rattle.dds_law_own.proofs.Disjoint.{Replaces, half, replaces, same_name}
 use Rattle.dds_pairs.proofs.NameOrders as own
-use Rattle.dds_pairs.proofs.Names.{Fit, FitOrder, Fits, IsFit, fits, fits-if, fits-plain, fits-still, other-named, then-plain}
+use Rattle.dds_pairs.proofs.Names.{Fit, Fits, IsFit, fits, fits-if, fits-plain, fits-still, other-named, then-plain}
 
 -- Leaves at a brick, and in what it sends, have partitions' names after its turn.
 
@@ -147,7 +142,8 @@ order_part s y h =
 notice_row : (s : BrickState) (y : NodeNo) → Fit s → Fits (notices.notice_row s y)
 notice_row s y h =
     then-plain _ (λ t. notices.pending_part t y) (then-plain _ notices.deferred_part (then-plain _ (λ t. notices.resolving_part t y)
-    (order_part (notices.learns s y) y (record { is = h.is })) (λ u. plain.all_hear u y news.Stopped)) (λ u. plain.deferred_part u)) (λ u. plain.pending_part u y)
+    (order_part (notices.learns s y) y (record { is = h.is })) (λ u. plain.all_hear u y news.Stopped))
+    (λ u. plain.deferred_part u)) (λ u. plain.pending_part u y)
 
 pub brick-fits : (s : BrickState) (from : NodeNo) (l : Letter) → Keyed s.leaves → Fit s → InLetter IsFit l → Fits (live_brick_turn s from l)
 brick-fits s from (letter.Get txn caller call key name stamp) keyed h k =
