@@ -25,6 +25,7 @@ use Rattle.dds_core.specs.LibraryTurn.{live_library_turn}
 use Rattle.dds_history.specs.History.{IsLegal}
 use Rattle.dds_law_own.proofs.Changes.{own}
 use Rattle.dds_law_own.proofs.Keeps as own_law
+use Rattle.dds_law_own.proofs.Owned.{IsOwn}
 use Rattle.dds_law_own.proofs.Parted.{IsBoth}
 use Rattle.dds_letters.specs.declared.letter.Letter.{Letter}
 use Rattle.dds_letters.specs.declared.letter.Letter.TheVariants as letter
@@ -38,6 +39,8 @@ use Rattle.dds_net.specs.Event.{Ordered, brick_stops, library_asked, library_sto
 use Rattle.dds_net.specs.Net.{Net, Node, nowhere, a_brick, a_library, Sizes, put}
 use Rattle.dds_orders.proofs.Numbered.{told-stopped}
 use Rattle.dds_outcomes.proofs.Grows.{decided-grows}
+use Rattle.dds_pairs.proofs.NameKeeps.{AreNamed, NodeNamed}
+use Rattle.dds_parents.proofs.Splits.{AreSplit, NodeSplits}
 use Rattle.dds_pending.proofs.Fits.{AreFitting}
 use Rattle.dds_states.specs.Turn.{first_some}
 use Rattle.dds_states.specs.declared.brick_state.BrickState.{BrickState}
@@ -54,7 +57,8 @@ use Rattle.dds_values.proofs.Leaves.{letter-leaves}
 use Rattle.dds_values.proofs.LibraryFlags.{asked-flags, library-flags}
 use Rattle.dds_values.proofs.OwnLeaves.{own-kept, told}
 use Rattle.dds_values.proofs.Settles.{PointFits}
-use Rattle.dds_values.specs.Below.{LeavesKept, OwnLeavesAt, ServersShare, WhereServed}
+use Rattle.dds_values.proofs.Splits.{IsPlaced}
+use Rattle.dds_values.specs.Below.{LeavesKept, OwnLeavesAt, ServersShare}
 use Rattle.dds_values.specs.Values.{AreHeld, CallFlag, HoldsTable, LetterFlag, NodeHolds}
 use Rattle.dds_world.specs.Values.{entries_of_points}
 
@@ -65,6 +69,8 @@ pub record Below (z : Sizes) (h : History) (n : Net) (b : Book × talk.Books) : 
   pub stands : Stands z h n b
   pub backed : AreBacked h n b.0
   pub fitting : AreFitting z n
+  pub split : AreSplit z n
+  pub named : AreNamed z n
 
 -- the claim, and that what was applied has the operation that its attempt asked
 pub record Held (h : History) (n : Net) (b : Book × talk.Books) : Type 0 where
@@ -154,6 +160,10 @@ module _ (z : Sizes) (few : z.bricks ≤ 64) (some : z.libraries ≤ 16) (h : Hi
   other-node at i made more is others ne (a_library y) e g =
       subst (λ ms. AllByRecursion (CallFlag ms) y.calls) (sym is) (calls-later h.made more y.calls g)
 
+  placed : (at : ℕ) (s : BrickState) → n.node at ≡ a_brick s → IsOwn at (own s) → IsPlaced at s
+  placed at s here owns =
+      record { owns = owns; named = subst (NodeNamed at) here (below.named.nodes at); splits = subst (NodeSplits at) here (below.split.splits at) }
+
   takes-then : (at from : ℕ) (l : Letter) (s : BrickState) → Takes z n at from l (a_brick s) → OwnLeavesAt h.made s from l
       → Commit z (moved z n (brick_takes at from l s)) (talk.with_brick at (live_brick_turn s from l).state b.1) → Then (brick_takes at from l s)
   takes-then at from l s f leaves after =
@@ -175,7 +185,7 @@ module _ (z : Sizes) (few : z.bricks ≤ 64) (some : z.libraries ≤ 16) (h : Hi
       let start = starts at k h.steps in
       let both : IsBoth at (own s) = subst (own_law.NodeOk at) f.here (below.fitting.stood.own at) in
       let now = turn-now h.made (Beside at k) (op_at b.0) (talk.with_brick at u b.1).decided (besides at k) h.steps s from l
-      (letter-leaves h.made at s both.0 from l (own-kept h.made s from l leaves)) (asks-at at from l s k) start in
+      (letter-leaves h.made at s both.0 from l (own-kept h.made at s (placed at s f.here both.0) from l leaves)) (asks-at at from l s k) start in
       let made = (goes h e).made in
       let more = all_kept h.made (points_of h.steps e) in
       record {
@@ -193,17 +203,18 @@ module _ (z : Sizes) (few : z.bricks ≤ 64) (some : z.libraries ≤ 16) (h : Hi
       }
 
   -- a brick is told an order
-  told-then : (at : ℕ) (o : Order) (s : BrickState) → Ordered z n at o s → WhereServed h.made s (brick_input s o).state → Then (brick_told at o s)
-  told-then at o s f leaves =
+  told-then : (at : ℕ) (o : Order) (s : BrickState) → Ordered z n at o s → Then (brick_told at o s)
+  told-then at o s f =
       let u = (brick_input s o).state in
       let w = order-rests {L = Any} s o in
       let pending : u.locks.pending ≡ s.locks.pending = ap (λ (x : Whole). x.pending) w.same in
       let outcomes : u.locks.outcomes ≡ s.locks.outcomes = ap (λ (x : Whole). x.outcomes) w.same in
       let lives : u.stopped ≡ s.stopped = told-stopped s o in
+      let both : IsBoth at (own s) = subst (own_law.NodeOk at) f.here (below.fitting.stood.own at) in
       rests (brick_told at o s) f refl
       (λ live.
       let alive : s.stopped ≡ false = sym lives ∙ live in
-      leaves-held h.made s u pending (stood-covered below.fitting.stood f.here) (told h.made s o leaves)
+      leaves-held h.made s u pending (stood-covered below.fitting.stood f.here) (told h.made at s (placed at s f.here both.0) o)
       (subst (NodeHolds h.made) f.here (held.is.nodes at) alive))
       (sent-news h.made z at (brick_input s o).out.letters
       (silent-flags h.made (brick_input s o).out.letters (orders-silent (brick_input s o).out.letters w.letters)))
@@ -217,7 +228,7 @@ module _ (z : Sizes) (few : z.bricks ≤ 64) (some : z.libraries ≤ 16) (h : Hi
   held-then (unheard at from l) f leaves after = rests (unheard at from l) f refl tt tt (λ i t e. held.is.noted i t e)
   held-then (unasked at caller call o) f leaves after = rests (unasked at caller call o) f refl tt tt (λ i t e. held.is.noted i t e)
   held-then (brick_takes at from l s) f leaves after = takes-then at from l s f leaves after
-  held-then (brick_told at o s) f leaves after = told-then at o s f leaves
+  held-then (brick_told at o s) f leaves after = told-then at o s f
   held-then (brick_stops at s left) f leaves after =
       rests (brick_stops at s left) f refl (λ live. cc) (λ i. tt) (λ i t e. held.is.noted i t e)
   held-then (library_takes at from l s) f leaves after =

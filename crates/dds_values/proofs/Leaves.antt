@@ -47,7 +47,7 @@ abbrev pub IsServed : LeafMap → ℕ → Type 0
 IsServed m key = is_some (leaf_for m key) ≡ true
 
 -- the whole of a key's name is a name of the key
-whole-of : (key depth : ℕ) (w : Name) → w.bits < 2 ^ w.depth → w.depth ≤ depth → overlaps (name_at key depth) w ≡ true → name_at key w.depth ≡ w
+pub whole-of : (key depth : ℕ) (w : Name) → w.bits < 2 ^ w.depth → w.depth ≤ depth → overlaps (name_at key depth) w ≡ true → name_at key w.depth ≡ w
 whole-of key depth w few low over =
     let k = min depth w.depth in
     let is : k ≡ w.depth = omega (arith, low) in
@@ -73,22 +73,23 @@ replaced-served m mine leaf key r h =
         let own_name : name_at key w.depth ≡ w = whole-of key at.depth w (whole-few leaf.name) lower (over q (overlaps-self q)) in
         finds m DEPTH key w.depth shallow (subst (Has m) (sym own_name) there)
 
--- leaves are replaced, and pairs stay
+-- no key comes to be covered, and pairs stay
+pub keeps-none-new : (made : List Made) (s u : BrickState) → u.pairs ≡ s.pairs → ((key : ℕ) → IsServed u.leaves key → IsServed s.leaves key)
+    → LeavesKeepHeld made s u
+keeps-none-new made s u pairs f =
+    record {
+      stays = λ key now was. ap (λ m. get m key) pairs;
+      comes = λ key now un. absurd (both_ways (is_some (leaf_for s.leaves key)) un (f key now));
+    }
+
+-- leaves are replaced
 replaced-keeps : (made : List Made) (s u : BrickState) (mine leaf : Leaf) → Replaces s.leaves mine leaf → u.leaves ≡ replaced s.leaves mine leaf
     → u.pairs ≡ s.pairs → LeavesKeepHeld made s u
 replaced-keeps made s u mine leaf r e pairs =
-    record {
-      stays = λ key now was. ap (λ m. get m key) pairs;
-      comes = λ key now un.
-          absurd (both_ways (is_some (leaf_for s.leaves key)) un (replaced-served s.leaves mine leaf key r (subst (λ m. IsServed m key) e now)));
-    }
+    keeps-none-new made s u pairs (λ key now. replaced-served s.leaves mine leaf key r (subst (λ m. IsServed m key) e now))
 
 pub same-keeps : (made : List Made) (s u : BrickState) → u.leaves ≡ s.leaves → u.pairs ≡ s.pairs → LeavesKeepHeld made s u
-same-keeps made s u e pairs =
-    record {
-      stays = λ key now was. ap (λ m. get m key) pairs;
-      comes = λ key now un. absurd (both_ways (is_some (leaf_for s.leaves key)) un (subst (λ m. IsServed m key) e now));
-    }
+same-keeps made s u e pairs = keeps-none-new made s u pairs (λ key now. subst (λ m. IsServed m key) e now)
 
 keeps-as : (made : List Made) (s u w : BrickState) → w.leaves ≡ u.leaves → w.pairs ≡ u.pairs → LeavesKeepHeld made s u → LeavesKeepHeld made s w
 keeps-as made s u w e pairs h =

@@ -13,6 +13,7 @@ pub mod Turns
 pub mod Changes
 pub mod Leaves
 pub mod Serves
+pub mod Splits
 pub mod OwnLeaves
 pub mod BrickTurns
 pub mod BrickFlags

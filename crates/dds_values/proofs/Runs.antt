@@ -19,6 +19,8 @@ use Rattle.dds_net.proofs.Runs.{IsKept, history-is, net-built, next-is, sized-ru
 use Rattle.dds_net.proofs.Steps.{step-moves}
 use Rattle.dds_net.specs.Event.{Event, History, goes, history_of}
 use Rattle.dds_net.specs.Net.{Net, Node, Sizes, net, sizes_of}
+use Rattle.dds_pairs.proofs.NameKeeps.{named-kept, start-names}
+use Rattle.dds_parents.proofs.Splits.{run-split, split-kept}
 use Rattle.dds_pending.proofs.Keeps.{fitting-kept}
 use Rattle.dds_pending.proofs.Runs.{start-fitting}
 use Rattle.dds_script.specs.Opening.{IsOpening, OpeningOf}
@@ -43,6 +45,8 @@ below-kept z few some h n e b built f k =
       stands = stands;
       backed = backed-kept z h n e b tt built f k.stands stands k.backed;
       fitting = fitting-kept z few some h n e tt built f k.fitting;
+      split = split-kept z few some h n e tt built f k.split;
+      named = named-kept z few some h n e tt built f k.named;
     }
 
 -- after a journal
@@ -106,7 +110,13 @@ start-along : (o : OpeningOf) → IsOpening o → Along o []
 start-along o h =
     record {
       books = (λ t. None, talk.no_books);
-      below = record { stands = record { parts = start-all o h; last = start-last o }; backed = start-backed o; fitting = start-fitting o h };
+      below = record {
+        stands = record { parts = start-all o h; last = start-last o };
+        backed = start-backed o;
+        fitting = start-fitting o h;
+        split = run-split o [] h refl;
+        named = start-names o h;
+      };
       held = record {
         is = record {
           nodes = λ k. new-holds o k _ (start-node o k);

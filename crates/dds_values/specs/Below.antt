@@ -6,15 +6,15 @@ use Rattle.dds_base.specs.Op.{the_key}
 use Rattle.dds_base.specs.declared.leaf.Leaf.{Leaf}
 use Rattle.dds_base.specs.declared.number.NodeNo.{NodeNo}
 use Rattle.dds_base.specs.declared.pending.Pending.{Pending}
+use Rattle.dds_brick_rows.specs.Refusal.{is_join}
 use Rattle.dds_cluster.specs.declared.trace.Made.{Made}
-use Rattle.dds_core.specs.Brick.{brick_input, live_brick_turn}
+use Rattle.dds_core.specs.Brick.{live_brick_turn}
 use Rattle.dds_core.specs.Notice.{learns, order_part}
 use Rattle.dds_letters.specs.declared.letter.Letter.{Letter}
 use Rattle.dds_letters.specs.declared.letter.Letter.TheVariants as letter
-use Rattle.dds_net.specs.Event.{Event, History, brick_takes, brick_told}
+use Rattle.dds_net.specs.Event.{Event, History, brick_takes}
 use Rattle.dds_net.specs.Net.{Net, a_brick}
 use Rattle.dds_order_rows.specs.OwnOrder.{serving}
-use Rattle.dds_serving.specs.Once.{IsOpen}
 use Rattle.dds_states.specs.Leaf.{leaf_for}
 use Rattle.dds_states.specs.declared.brick_state.BrickState.{BrickState}
 use Rattle.dds_states.specs.declared.brick_state.OpenOrder.{OpenOrder}
@@ -45,13 +45,13 @@ pub record LeavesKeepHeld (made : List Made) (s u : BrickState) : Type 0 where
 abbrev pub IsAs : OpenOrder → OpenOrder → Type 0
 IsAs p o = (o.name ≡ p.name) × (o.task ≡ p.task)
 
--- so it is where the leaf that the brick's own order made is served: as the order was open, or is a split that opens in the turn
+-- so it is where the leaf that the brick's own join made is served
 abbrev pub WhereServed : List Made → BrickState → BrickState → Type 0
 WhereServed made s u =
-    (p o : OpenOrder) (leaf : Leaf) → IsOpen s p → IsAs p o → u.leaves ≡ (serving s o leaf o.task).leaves → u.pairs ≡ (serving s o leaf o.task).pairs
-    → LeavesKeepHeld made s u
+    (p o : OpenOrder) (leaf : Leaf) → s.order ≡ Some p → IsAs p o → is_join o.task ≡ true → u.leaves ≡ (serving s o leaf o.task).leaves
+    → u.pairs ≡ (serving s o leaf o.task).pairs → LeavesKeepHeld made s u
 
--- at a letter at which the own order goes on: for a notice, where that has gone on
+-- at a letter at which the own order goes on, which may end it: for a notice, where that has gone on
 abbrev pub OwnLeavesAt : List Made → BrickState → NodeNo → Letter → Type 0
 OwnLeavesAt made s from (letter.Granted number leaf) = WhereServed made s (live_brick_turn s from (letter.Granted number leaf)).state
 OwnLeavesAt made s from (letter.CopyPart number last pairs) = WhereServed made s (live_brick_turn s from (letter.CopyPart number last pairs)).state
@@ -62,5 +62,4 @@ OwnLeavesAt made s from other = Unit {0}
 -- and at an event
 abbrev pub LeavesKept : History → Event → Type 0
 LeavesKept h (brick_takes at from l s) = OwnLeavesAt h.made s from l
-LeavesKept h (brick_told at o s) = WhereServed h.made s (brick_input s o).state
 LeavesKept h other = Unit {0}

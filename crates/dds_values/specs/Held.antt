@@ -13,8 +13,8 @@ use Rattle.dds_values.specs.Values.{HoldsTable}
 use Rattle.dds_world.specs.Stands.{history}
 use Rattle.dds_world.specs.Values.{entries_of_points}
 
--- of the world before a step and of the event that the step is: bricks that serve a key list each other, and where an own order of the brick goes
--- on, a change of its leaves keeps what is held
+-- of the world before a step and of the event that the step is: bricks that serve a key list each other, and where a brick serves the leaf that
+-- its own join made, that keeps what is held
 pub record IsGiven (o : OpeningOf) (was : List Step) (e : Event) : Type 0 where
   pub share : ServersShare (net_of o was)
   pub leaves : LeavesKept (history_of (run_of o was)) e
