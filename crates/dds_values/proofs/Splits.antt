@@ -132,4 +132,6 @@ split-keeps ms me s p t h is_open split (finish made has_made e) pairs =
     let few : p.name.bits < 2 ^ p.name.depth = subst (λ (n : Name). n.bits < 2 ^ n.depth) it.name fit.bits in
     let half = made-half s p made it split has_made in
     keeps-none-new ms s t.state pairs
-    (λ key now. halves-served s.leaves p.name made key half few (ap is_some it.there) (subst (λ m. IsServed m key) (e ∙ served-split s.leaves p made split) now))
+    (λ key now.
+    halves-served s.leaves p.name made key half few (ap is_some it.there)
+    (subst (λ m. IsServed m key) (e ∙ served-split s.leaves p made split) now))
