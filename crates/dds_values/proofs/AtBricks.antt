@@ -63,7 +63,8 @@ use Rattle.dds_talk.specs.Table.Talks.{live, left}
 use Rattle.dds_values.proofs.BrickTurns.{Asks, Start}
 use Rattle.dds_values.proofs.Elsewhere.{some-is, sure-holder}
 use Rattle.dds_values.proofs.Settles.{HasItsOp, MayEnd, Now, OtherBrick, PointFits, undecided}
-use Rattle.dds_values.specs.Below.{IsCovered, LiveBrick, ServersShare}
+use Rattle.dds_values.proofs.Shares.{LiveBrick, ServersShare}
+use Rattle.dds_values.specs.Below.{IsCovered}
 use Rattle.dds_values.specs.Values.{AreHeld, NodeHolds}
 
 -- What two-phase commit and the laws of leaves give a live brick that takes a letter.

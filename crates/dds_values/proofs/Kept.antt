@@ -57,8 +57,9 @@ use Rattle.dds_values.proofs.Leaves.{letter-leaves}
 use Rattle.dds_values.proofs.LibraryFlags.{asked-flags, library-flags}
 use Rattle.dds_values.proofs.OwnLeaves.{own-kept, told}
 use Rattle.dds_values.proofs.Settles.{PointFits}
+use Rattle.dds_values.proofs.Shares.{ServersShare}
 use Rattle.dds_values.proofs.Splits.{IsPlaced}
-use Rattle.dds_values.specs.Below.{LeavesKept, OwnLeavesAt, ServersShare}
+use Rattle.dds_values.specs.Below.{LeavesKept, OwnLeavesAt}
 use Rattle.dds_values.specs.Values.{AreHeld, CallFlag, HoldsTable, LetterFlag, NodeHolds}
 use Rattle.dds_world.specs.Values.{entries_of_points}
 

@@ -18,6 +18,7 @@ pub mod OwnLeaves
 pub mod BrickTurns
 pub mod BrickFlags
 pub mod LibraryFlags
+pub mod Shares
 pub mod AtBricks
 pub mod Kept
 pub mod Runs

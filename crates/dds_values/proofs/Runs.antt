@@ -7,7 +7,7 @@ use Rattle.dds_answered.proofs.Kept.{backed-kept}
 use Rattle.dds_answered.proofs.Start.{start-backed}
 use Rattle.dds_attempts.proofs.Runs.{stands-kept, start-last}
 use Rattle.dds_books.specs.Books.{Book, booked}
-use Rattle.dds_cluster.specs.Trace.{is_possible, is_run_from, next, run_of, start, trace_from}
+use Rattle.dds_cluster.specs.Trace.{is_possible, is_run, is_run_from, next, run_of, start, trace_from}
 use Rattle.dds_cluster.specs.Turn.{turn}
 use Rattle.dds_cluster.specs.declared.step.Step.{Step}
 use Rattle.dds_cluster.specs.declared.trace.Trace.{Trace}
@@ -27,10 +27,11 @@ use Rattle.dds_script.specs.Opening.{IsOpening, OpeningOf}
 use Rattle.dds_talk.specs.Books as talk
 use Rattle.dds_values.proofs.Histories.{legal-history}
 use Rattle.dds_values.proofs.Kept.{Below, Held, held-then}
-use Rattle.dds_values.specs.Held.{AllGiven, HeldWhereGiven}
+use Rattle.dds_values.proofs.Shares.{servers-share}
+use Rattle.dds_values.specs.Held.{HeldWhereGiven, JoinsKeepHeld, TalkAlong}
 use Rattle.dds_values.specs.Values.{LetterFlag, NodeHolds}
 
--- Of each run at whose steps the premises hold: what its bricks hold, and that its points are legal.
+-- Of each run of which the premises hold: what its bricks hold, and that its points are legal.
 
 abbrev Both : Type 0
 Both = Book × talk.Books
@@ -49,6 +50,13 @@ below-kept z few some h n e b built f k =
       named = named-kept z few some h n e tt built f k.named;
     }
 
+-- what is given of a run
+record IsGiven (o : OpeningOf) (journal : List Step) : Type 0 where
+  opening : IsOpening o
+  run : is_run o journal ≡ true
+  talk : TalkAlong o journal
+  joins : JoinsKeepHeld o journal
+
 -- after a journal
 record Along (o : OpeningOf) (journal : List Step) : Type 0 where
   books : Both
@@ -60,13 +68,12 @@ trace-grown t [] x = refl
 trace-grown t (y ∷ journal) x = trace-grown (next t y) journal x
 
 -- a step more
-went-on : (o : OpeningOf) (was more journal : List Step) (x : Step) → IsOpening o → AllGiven o journal → was ++ x ∷ more ≡ journal → Along o was
-    → is_possible (run_of o was) x ≡ true → Along o (Grown was x)
-went-on o was more journal x opening given whole w p =
+went-on : (o : OpeningOf) (was more journal : List Step) (x : Step) → IsGiven o journal → was ++ x ∷ more ≡ journal → Along o was → is_possible (run_of o was) x ≡ true → Along o (Grown was x)
+went-on o was more journal x given whole w p =
     let z = sizes_of o in
     let t = run_of o was in
-    let few = opening.ranges.bricks in
-    let some = opening.ranges.libraries in
+    let few = given.opening.ranges.bricks in
+    let some = given.opening.ranges.libraries in
     let m = step-moves z t x few (sized-run o was) p in
     let h = history_of t in
     let n = net_of o was in
@@ -80,9 +87,10 @@ went-on o was more journal x opening given whole w p =
       replies = ap (λ c. if c then (turn t.steps t.world x).replies else []) p ∙ m.replies;
       after = ap (λ (u : Trace). net z u.world) one ∙ m.after;
     } in
-    let g = given was more x m.event whole is in
+    let share = servers-share o was (x ∷ more) journal given.opening whole given.run given.talk in
+    let leaves = given.joins was more x m.event whole is in
     let low = below-kept z few some h n m.event b built m.fits w.below in
-    let up = held-then z few some h n b built w.below g.share w.held m.event m.fits g.leaves low.stands.parts.1 in
+    let up = held-then z few some h n b built w.below share w.held m.event m.fits leaves low.stands.parts.1 in
     let c = adds_both h n m.event b in
     let past : history_of (run_of o (Grown was x)) ≡ goes h m.event = ap history_of one ∙ history-is z t x m in
     record {
@@ -91,13 +99,13 @@ went-on o was more journal x opening given whole w p =
       held = subst (λ i. Held i (net_of o (Grown was x)) c) (sym past) (subst (λ v. Held (goes h m.event) v c) (sym is.after) up);
     }
 
-went-all : (o : OpeningOf) (was more journal : List Step) → IsOpening o → AllGiven o journal → was ++ more ≡ journal → Along o was
+went-all : (o : OpeningOf) (was more journal : List Step) → IsGiven o journal → was ++ more ≡ journal → Along o was
     → is_run_from (run_of o was) more ≡ true → Along o journal
-went-all o was [] journal opening given whole w p = subst (Along o) (sym (append-nil was) ∙ whole) w
-went-all o was (x ∷ more) journal opening given whole w p =
+went-all o was [] journal given whole w p = subst (Along o) (sym (append-nil was) ∙ whole) w
+went-all o was (x ∷ more) journal given whole w p =
     let q = and_parts (is_possible (run_of o was) x) (is_run_from (next (run_of o was) x) more) p in
-    went-all o (Grown was x) more journal opening given (append_assoc was (x ∷ []) more ∙ whole)
-    (went-on o was more journal x opening given whole w q.0)
+    went-all o (Grown was x) more journal given (append_assoc was (x ∷ []) more ∙ whole)
+    (went-on o was more journal x given whole w q.0)
     (subst (λ (t : Trace). is_run_from t more ≡ true) (sym (trace-grown (start o) was x)) q.1)
 
 -- the opening
@@ -129,8 +137,9 @@ start-along o h =
     }
 
 pub held-where-given : HeldWhereGiven
-held-where-given o journal h run given =
-    let w = went-all o [] journal journal h given refl (start-along o h) run in
+held-where-given o journal h run talk joins =
+    let given : IsGiven o journal = record { opening = h; run = run; talk = talk; joins = joins } in
+    let w = went-all o [] journal journal given refl (start-along o h) run in
     record {
       legal = w.held.is.legal;
       history_is = legal-history (run_of o journal) w.held.is.legal;

@@ -1,7 +1,6 @@
--- What the values take from the laws of leaves and of orders, of a cluster's nodes and channels: not proved here.
+-- What a change of a brick's leaves keeps, and what the values take of the end of a brick's own join: not proved here.
 use Rattle.std.specs.Prelude.{ℕ, ◌≡◌, true, false, List, Some, is_some}
 use Rattle.std.specs.FinMap.{get}
-use Rattle.dds_base.specs.BrickList.{has}
 use Rattle.dds_base.specs.Op.{the_key}
 use Rattle.dds_base.specs.declared.leaf.Leaf.{Leaf}
 use Rattle.dds_base.specs.declared.number.NodeNo.{NodeNo}
@@ -13,25 +12,14 @@ use Rattle.dds_core.specs.Notice.{learns, order_part}
 use Rattle.dds_letters.specs.declared.letter.Letter.{Letter}
 use Rattle.dds_letters.specs.declared.letter.Letter.TheVariants as letter
 use Rattle.dds_net.specs.Event.{Event, History, brick_takes}
-use Rattle.dds_net.specs.Net.{Net, a_brick}
 use Rattle.dds_order_rows.specs.OwnOrder.{serving}
 use Rattle.dds_states.specs.Leaf.{leaf_for}
 use Rattle.dds_states.specs.declared.brick_state.BrickState.{BrickState}
 use Rattle.dds_states.specs.declared.brick_state.OpenOrder.{OpenOrder}
 use Rattle.dds_values.specs.Values.{bound_in}
 
-pub record LiveBrick (n : Net) (k : ℕ) (s : BrickState) : Type 0 where
-  pub here : n.node k ≡ a_brick s
-  pub live : s.stopped ≡ false
-
 abbrev pub IsCovered : BrickState → Pending → Type 0
 IsCovered s p = is_some (leaf_for s.leaves (the_key p.op)) ≡ true
-
--- live bricks with leaves that cover a key list each other: `ServersShareAGroup.share` of dds_world, of a cluster's nodes
-pub record ServersShare (n : Net) : Type 0 where
-  pub share :
-      (a b : ℕ) (s t : BrickState) (key : ℕ) (leaf other : Leaf) → LiveBrick n a s → LiveBrick n b t → leaf_for s.leaves key ≡ Some leaf
-      → leaf_for t.leaves key ≡ Some other → has leaf.list b ≡ true
 
 -- a brick's leaves change: of a key that its leaves cover before and after it has the same, and of one that they come to cover what the
 -- table has

@@ -8,9 +8,10 @@ pub fn legal_without_reads()
     ensures { LegalWithoutReads }
 {}
 
-/// Of each run of each opening at whose steps live bricks that serve a key list each other, and a brick that serves the leaf of its own join has
-/// for each key that it comes to cover what the points left: the points, reads that no answer used among them, are legal, and so is the history; and each live
-/// brick has for each key of its leaves what the points left, or, where a transaction is pending on it, what they left before that one's point.
+/// Of each run of each opening, with stops, splits and joins, at whose places orders and their members talk as the table of conversations says, and
+/// at whose steps a brick that serves the leaf of its own join has for each key that it comes to cover what the points left: the points, reads that
+/// no answer used among them, are legal, and so is the history; and each live brick has for each key of its leaves what the points left, or, where a
+/// transaction is pending on it, what they left before that one's point.
 pub fn values_are_held_where_given()
     ensures { HeldWhereGiven }
 {}
