@@ -68,7 +68,8 @@ trace-grown t [] x = refl
 trace-grown t (y ∷ journal) x = trace-grown (next t y) journal x
 
 -- a step more
-went-on : (o : OpeningOf) (was more journal : List Step) (x : Step) → IsGiven o journal → was ++ x ∷ more ≡ journal → Along o was → is_possible (run_of o was) x ≡ true → Along o (Grown was x)
+went-on : (o : OpeningOf) (was more journal : List Step) (x : Step) → IsGiven o journal → was ++ x ∷ more ≡ journal → Along o was
+    → is_possible (run_of o was) x ≡ true → Along o (Grown was x)
 went-on o was more journal x given whole w p =
     let z = sizes_of o in
     let t = run_of o was in
