@@ -25,7 +25,6 @@ use Rattle.dds_core.specs.LibraryTurn.{live_library_turn}
 use Rattle.dds_history.specs.History.{IsLegal}
 use Rattle.dds_law_own.proofs.Changes.{own}
 use Rattle.dds_law_own.proofs.Keeps as own_law
-use Rattle.dds_law_own.proofs.Owned.{IsOwn}
 use Rattle.dds_law_own.proofs.Parted.{IsBoth}
 use Rattle.dds_letters.specs.declared.letter.Letter.{Letter}
 use Rattle.dds_letters.specs.declared.letter.Letter.TheVariants as letter
@@ -39,6 +38,7 @@ use Rattle.dds_net.specs.Event.{Ordered, brick_stops, library_asked, library_sto
 use Rattle.dds_net.specs.Net.{Net, Node, nowhere, a_brick, a_library, Sizes, put}
 use Rattle.dds_orders.proofs.Numbered.{told-stopped}
 use Rattle.dds_outcomes.proofs.Grows.{decided-grows}
+use Rattle.dds_pairs.proofs.Keeps.{NodeCopied}
 use Rattle.dds_pairs.proofs.NameKeeps.{AreNamed, NodeNamed}
 use Rattle.dds_parents.proofs.Splits.{AreSplit, NodeSplits}
 use Rattle.dds_pending.proofs.Fits.{AreFitting}
@@ -161,9 +161,14 @@ module _ (z : Sizes) (few : z.bricks ≤ 64) (some : z.libraries ≤ 16) (h : Hi
   other-node at i made more is others ne (a_library y) e g =
       subst (λ ms. AllByRecursion (CallFlag ms) y.calls) (sym is) (calls-later h.made more y.calls g)
 
-  placed : (at : ℕ) (s : BrickState) → n.node at ≡ a_brick s → IsOwn at (own s) → IsPlaced at s
-  placed at s here owns =
-      record { owns = owns; named = subst (NodeNamed at) here (below.named.nodes at); splits = subst (NodeSplits at) here (below.split.splits at) }
+  placed : (at : ℕ) (s : BrickState) → n.node at ≡ a_brick s → IsBoth at (own s) → IsPlaced at s
+  placed at s here both =
+      record {
+        both = both;
+        named = subst (NodeNamed at) here (below.named.nodes at);
+        copied = subst (NodeCopied at) here (below.named.copied.nodes at);
+        splits = subst (NodeSplits at) here (below.split.splits at);
+      }
 
   takes-then : (at from : ℕ) (l : Letter) (s : BrickState) → Takes z n at from l (a_brick s) → OwnLeavesAt h.made s from l
       → Commit z (moved z n (brick_takes at from l s)) (talk.with_brick at (live_brick_turn s from l).state b.1) → Then (brick_takes at from l s)
@@ -186,7 +191,7 @@ module _ (z : Sizes) (few : z.bricks ≤ 64) (some : z.libraries ≤ 16) (h : Hi
       let start = starts at k h.steps in
       let both : IsBoth at (own s) = subst (own_law.NodeOk at) f.here (below.fitting.stood.own at) in
       let now = turn-now h.made (Beside at k) (op_at b.0) (talk.with_brick at u b.1).decided (besides at k) h.steps s from l
-      (letter-leaves h.made at s both.0 from l (own-kept h.made at s (placed at s f.here both.0) from l leaves)) (asks-at at from l s k) start in
+      (letter-leaves h.made at s both.0 from l (own-kept h.made at s (placed at s f.here both) from l leaves)) (asks-at at from l s k) start in
       let made = (goes h e).made in
       let more = all_kept h.made (points_of h.steps e) in
       record {
@@ -215,7 +220,7 @@ module _ (z : Sizes) (few : z.bricks ≤ 64) (some : z.libraries ≤ 16) (h : Hi
       rests (brick_told at o s) f refl
       (λ live.
       let alive : s.stopped ≡ false = sym lives ∙ live in
-      leaves-held h.made s u pending (stood-covered below.fitting.stood f.here) (told h.made at s (placed at s f.here both.0) o)
+      leaves-held h.made s u pending (stood-covered below.fitting.stood f.here) (told h.made at s (placed at s f.here both) o)
       (subst (NodeHolds h.made) f.here (held.is.nodes at) alive))
       (sent-news h.made z at (brick_input s o).out.letters
       (silent-flags h.made (brick_input s o).out.letters (orders-silent (brick_input s o).out.letters w.letters)))

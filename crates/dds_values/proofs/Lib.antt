@@ -14,6 +14,7 @@ pub mod Changes
 pub mod Leaves
 pub mod Serves
 pub mod Splits
+pub mod Joins
 pub mod OwnLeaves
 pub mod BrickTurns
 pub mod BrickFlags

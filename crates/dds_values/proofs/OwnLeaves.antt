@@ -1,9 +1,11 @@
 use Rattle.std.proofs.Common.{◌≡◌, ℕ, ◌+◌, ◌++◌, ◌==◌, ◌&&◌, ◌||◌, Bool, true, false, inl, Option, Some, None, is_some, List, refl, sym, ap, ◌∙◌}
+use Rattle.std.proofs.lemmas.Bool.{and_parts}
 use Rattle.std.specs.FinMap.{get, keys}
-use Rattle.std.specs.List.{list_any}
-use Rattle.std.specs.Prelude.{if◌then◌else◌}
-use Rattle.dds_base.specs.Name.{Name, overlaps}
+use Rattle.std.specs.List.{AllByRecursion, list_all, list_any}
+use Rattle.std.specs.Prelude.{if◌then◌else◌, length, nat_le}
+use Rattle.dds_base.specs.Name.{Name, covers, overlaps}
 use Rattle.dds_base.specs.NodeSet.{has_node}
+use Rattle.dds_base.specs.Place.{last_key}
 use Rattle.dds_base.specs.declared.leaf.Leaf.{Leaf}
 use Rattle.dds_base.specs.declared.name.TheConstants.{DEPTH}
 use Rattle.dds_base.specs.declared.number.NodeNo.{NodeNo}
@@ -14,7 +16,9 @@ use Rattle.dds_base.specs.declared.op.OrderReply.{OrderReply}
 use Rattle.dds_base.specs.declared.op.OrderReply.TheVariants as answered
 use Rattle.dds_base.specs.declared.pair.Pair.{Pair}
 use Rattle.dds_brick_rows.specs.Refusal.{is_join}
+use Rattle.dds_brick_rows.specs.declared.refusal.TheConstants.{PAIRS}
 use Rattle.dds_cluster.specs.declared.trace.Made.{Made}
+use Rattle.dds_core.proofs.Lists.{all-append}
 use Rattle.dds_core.specs.Brick.{brick_input}
 use Rattle.dds_core.specs.Notice as notices
 use Rattle.dds_law_own.proofs.Ways.{is-none}
@@ -25,6 +29,7 @@ use Rattle.dds_locks.specs.Pending.{any_under}
 use Rattle.dds_order_rows.specs.Orders as orders
 use Rattle.dds_order_rows.specs.OwnOrder as order
 use Rattle.dds_net.proofs.Puts.{if-keeps}
+use Rattle.dds_pairs.proofs.Copies.{all-pass}
 use Rattle.dds_serving.proofs.Finishes as ends
 use Rattle.dds_serving.proofs.Finishes.{Finish}
 use Rattle.dds_serving.specs.Once.{IsOpen}
@@ -35,6 +40,7 @@ use Rattle.dds_states.specs.declared.brick_state.OpenOrder.{OpenOrder}
 use Rattle.dds_states.specs.declared.brick_state.Task.{Task}
 use Rattle.dds_states.specs.declared.brick_state.Task.TheVariants.{Join, Split}
 use Rattle.dds_values.proofs.Changes.{OwnKept}
+use Rattle.dds_values.proofs.Joins.{join-keeps}
 use Rattle.dds_values.proofs.Leaves.{same-keeps}
 use Rattle.dds_values.proofs.Serves as own
 use Rattle.dds_values.proofs.Serves.{SameTable, Serve}
@@ -42,8 +48,8 @@ use Rattle.dds_values.proofs.Serves.Serve.{goes_on, serves}
 use Rattle.dds_values.proofs.Splits.{IsPlaced, split-keeps}
 use Rattle.dds_values.specs.Below.{IsAs, LeavesKeepHeld, OwnLeavesAt, WhereServed}
 
--- Where a brick's own order goes on, its leaves and pairs stay, or the order's leaf is served; and where that is a split's, no key comes to be
--- covered and pairs stay.
+-- Where a brick's own order goes on, its leaves and pairs stay, or the order's leaf is served: what was covered stays, and where that is a split's,
+-- no key comes to be covered.
 
 -- what a row of the order does to both
 abbrev Goes : BrickState → OpenOrder → BrickTurn → Type 0
@@ -79,7 +85,9 @@ module _ (made : List Made) (me : ℕ) (s : BrickState) (its : IsPlaced me s) wh
   -- a split's halves are served, or what a join made
   at-task : (p o : OpenOrder) (leaf : Leaf) (t : BrickTurn) (k : Task) → o.task ≡ k → IsOpen s p → IsAs p o → Finish s.number s.made s.leaves p t
       → t.state.leaves ≡ (order.serving s o leaf o.task).leaves → t.state.pairs ≡ (order.serving s o leaf o.task).pairs → Owes t
-  at-task p o leaf t (Join via) task (was_open is) it fin e f k = k p o leaf is it (ap is_join task) e f
+  at-task p o leaf t (Join via) task (was_open is) it fin e f k =
+      let join = ap is_join task in
+      join-keeps made me s t.state p o its is it join (f ∙ ap (λ x. (order.serving s o leaf x).pairs) task) (k p o leaf is it join e f)
   at-task p o leaf t (Join via) task (opens at old none there fixed name split phase) it fin e f k =
       let bad : Join via ≡ Split = sym task ∙ it.1 ∙ split in cc
   at-task p o leaf t Split task is_open it fin e f k =
@@ -96,23 +104,29 @@ module _ (made : List Made) (me : ℕ) (s : BrickState) (its : IsPlaced me s) wh
   owes-if true t u f g = f refl
   owes-if false t u f g = g refl
 
+  itself : (p : OpenOrder) → s.order ≡ Some p → IsAs p p
+  itself p e = (refl, refl, (its.copied p e).under)
+
   with-order : (row : BrickState → OpenOrder → BrickTurn) (q : Option OpenOrder) → s.order ≡ q
-      → ((p : OpenOrder) → Goes (record s { order = None }) p (row (record s { order = None }) p)) → Owes (order.with_order s row q)
+      → ((p : OpenOrder) → s.order ≡ Some p → Goes (record s { order = None }) p (row (record s { order = None }) p)) → Owes (order.with_order s row q)
   with-order row None e f = rests (still s) refl refl
   with-order row (Some p) e f =
-      keeps p (row (record s { order = None }) p) (was_open e) (serve-as s (record s { order = None }) p _ (refl, refl) (closing s) (f p).0) (f p).1
+      keeps p (row (record s { order = None }) p) (was_open e) (serve-as s (record s { order = None }) p _ (refl, refl) (closing s) (f p e).0)
+      (f p e).1
 
   at-order : (number : ℕ) (test : OpenOrder → Bool) (row : BrickState → OpenOrder → BrickTurn)
-      → ((p : OpenOrder) → Goes (record s { order = None }) p (row (record s { order = None }) p)) → Owes (order.at_order s number test row)
+      → ((p : OpenOrder) → IsAs p p → test p ≡ true → Goes (record s { order = None }) p (row (record s { order = None }) p))
+      → Owes (order.at_order s number test row)
   at-order number test row f =
-      owes-if (order.is_at number test s.order) (order.with_order s row s.order) (still s) (λ e. with-order row s.order refl f)
+      owes-if (order.is_at number test s.order) (order.with_order s row s.order) (still s) (λ i. with-order row s.order refl
+      (λ p e. f p (itself p e) (and_parts (p.number == number) (test p) (ap (order.is_at number test) (sym e) ∙ i)).1))
       (λ e. rests (still s) refl refl)
 
   pub granted : (from : NodeNo) (number : ℕ) (leaf : Leaf) → Owes (order.granted_row s from number leaf)
   granted from number leaf =
       at-order number (order.takes_grant s.number leaf) (λ t o. order.grants t (order.with_grant o from) from leaf o.task)
-      (λ p. (
-        own.grants (record s { order = None }) p (order.with_grant p from) from leaf p.task (refl, refl),
+      (λ p it is. (
+        own.grants (record s { order = None }) p (order.with_grant p from) from leaf p.task it,
         ends.grants p (record s { order = None }) (order.with_grant p from) from leaf p.task refl (refl, refl, refl, inl refl),
       ))
 
@@ -120,16 +134,25 @@ module _ (made : List Made) (me : ℕ) (s : BrickState) (its : IsPlaced me s) wh
   copied from number last pairs =
       at-order number (λ o. order.is_source from o.phase && order.fits o pairs)
       (λ t o. order.copied_on t (record o { copied = o.copied ++ pairs }) from last)
-      (λ p. (
-        own.copied_on (record s { order = None }) p (record p { copied = p.copied ++ pairs }) from last (refl, refl),
+      (λ p it is. (
+        own.copied_on (record s { order = None }) p (record p { copied = p.copied ++ pairs }) from last (refl, refl, more p it.2 is),
         ends.copied_on p (record s { order = None }) (record p { copied = p.copied ++ pairs }) from last (refl, refl, refl, inl refl),
       ))
+    where
+      more : (p : OpenOrder) → AllByRecursion (λ (x : Pair). covers p.name x.key ≡ true) p.copied
+          → (order.is_source from p.phase && order.fits p pairs) ≡ true
+          → AllByRecursion (λ (x : Pair). covers p.name x.key ≡ true) (p.copied ++ pairs)
+      more p under is =
+          let fits = (and_parts (order.is_source from p.phase) (order.fits p pairs) is).1 in
+          let all = (and_parts (list_all (λ (x : Pair). covers p.name x.key) pairs)
+          (order.starts_after (last_key None p.copied) pairs && nat_le (length p.copied + length pairs) PAIRS) fits).0 in
+          all-append (λ (x : Pair). covers p.name x.key ≡ true) p.copied pairs under (all-pass (λ (x : Pair). covers p.name x.key) pairs all)
 
   pub installed : (from : NodeNo) (number : ℕ) → Owes (order.installed_row s from number)
   installed from number =
       at-order number (λ o. order.is_installing o.phase) (λ t o. order.installed_in t (record o { waiting = without o.waiting from }) o.phase)
-      (λ p. (
-        own.installed_in (record s { order = None }) p (record p { waiting = without p.waiting from }) p.phase (refl, refl),
+      (λ p it is. (
+        own.installed_in (record s { order = None }) p (record p { waiting = without p.waiting from }) p.phase it,
         ends.installed_in p (record s { order = None }) (record p { waiting = without p.waiting from }) p.phase refl (refl, refl, refl, inl refl),
       ))
 
@@ -139,7 +162,7 @@ module _ (made : List Made) (me : ℕ) (s : BrickState) (its : IsPlaced me s) wh
   part-with y None e = rests (still (notices.learns s y)) refl refl
   part-with y (Some p) e =
       let u = record (notices.learns s y) { order = None } in
-      keeps p (notices.order_goes u p y p.phase) (was_open e) (serve-as s u p _ (refl, refl) (learning s y) (own.order_goes u p y p.phase))
+      keeps p (notices.order_goes u p y p.phase) (was_open e) (serve-as s u p _ (refl, refl) (learning s y) (own.order_goes u p y p.phase (itself p e)))
       (ends.order_goes p u y p.phase refl)
 
   pub part : (y : NodeNo) → Owes (notices.order_part (notices.learns s y) y)
@@ -159,7 +182,7 @@ module _ (made : List Made) (me : ℕ) (s : BrickState) (its : IsPlaced me s) wh
       let u = record (orders.leasing s leaf.name s.number) { orders = s.orders + 1 } in
       let p = order.new_split s leaf in
       keeps p (order.leases_on u p) (opens name leaf none there refl refl refl refl)
-      (serve-as s u p (order.leases_on u p) (refl, refl) (leasing s leaf.name) (own.leases_on u p p (refl, refl)))
+      (serve-as s u p (order.leases_on u p) (refl, refl) (leasing s leaf.name) (own.leases_on u p p (refl, refl, tt)))
       (ends.leases_on p u p (refl, refl, refl, inl refl)) (λ q o made e it join f g. let bad : Some q ≡ None = sym e ∙ none in cc)
 
   split_leaf : (name : Name) (leaf : Leaf) → s.order ≡ None → get s.leaves name ≡ Some leaf → Keeps (order.split_leaf s leaf)

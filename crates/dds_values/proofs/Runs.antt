@@ -28,7 +28,7 @@ use Rattle.dds_talk.specs.Books as talk
 use Rattle.dds_values.proofs.Histories.{legal-history}
 use Rattle.dds_values.proofs.Kept.{Below, Held, held-then}
 use Rattle.dds_values.proofs.Shares.{servers-share}
-use Rattle.dds_values.specs.Held.{HeldWhereGiven, JoinsKeepHeld, TalkAlong}
+use Rattle.dds_values.specs.Held.{HeldWhereGiven, JoinsServeTheTable, TalkAlong}
 use Rattle.dds_values.specs.Values.{LetterFlag, NodeHolds}
 
 -- Of each run of which the premises hold: what its bricks hold, and that its points are legal.
@@ -55,7 +55,7 @@ record IsGiven (o : OpeningOf) (journal : List Step) : Type 0 where
   opening : IsOpening o
   run : is_run o journal ≡ true
   talk : TalkAlong o journal
-  joins : JoinsKeepHeld o journal
+  joins : JoinsServeTheTable o journal
 
 -- after a journal
 record Along (o : OpeningOf) (journal : List Step) : Type 0 where

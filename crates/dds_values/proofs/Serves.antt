@@ -120,9 +120,9 @@ copies_again : (s : BrickState) (p o : OpenOrder) (leaf : Option Leaf) → Serve
 copies_again s p o None = goes_on refl refl
 copies_again s p o (Some leaf) = copies_from s p o (order.sources s o leaf)
 
-pub order_goes : (s : BrickState) (p : OpenOrder) (y : NodeNo) (phase : OrderPhase) → Serve s p (notices.order_goes s p y phase)
-order_goes s p y Leasing =
+pub order_goes : (s : BrickState) (p : OpenOrder) (y : NodeNo) (phase : OrderPhase) → IsAs p p → Serve s p (notices.order_goes s p y phase)
+order_goes s p y Leasing it =
     serve-if s p (notices.is_lost p y p.task) (order.ends s p answered.NoSource) (order.leases_on s (record p { waiting = without p.waiting y }))
-    (ends s p p answered.NoSource) (leases_on s p (record p { waiting = without p.waiting y }) (refl, refl))
-order_goes s p y (Copying source) = copies_again s p p p.leaf
-order_goes s p y (Installing made) = installs_on s p (record p { waiting = without p.waiting y }) made (refl, refl)
+    (ends s p p answered.NoSource) (leases_on s p (record p { waiting = without p.waiting y }) it)
+order_goes s p y (Copying source) it = copies_again s p p p.leaf
+order_goes s p y (Installing made) it = installs_on s p (record p { waiting = without p.waiting y }) made it

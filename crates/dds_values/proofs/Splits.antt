@@ -13,10 +13,12 @@ use Rattle.dds_law_own.proofs.Changes.{own, served}
 use Rattle.dds_law_own.proofs.Disjoint.{Has, has-put, has-removed}
 use Rattle.dds_law_own.proofs.Halves.{over-high, over-low}
 use Rattle.dds_law_own.proofs.Lists.{each-is as own-is}
-use Rattle.dds_law_own.proofs.Owned.{IsOrderly, IsOwn, Named, made_name, orderly}
+use Rattle.dds_law_own.proofs.Owned.{IsOrderly, Named, made_name, orderly}
+use Rattle.dds_law_own.proofs.Parted.{IsBoth}
 use Rattle.dds_orders.proofs.Covered.{finds, found}
 use Rattle.dds_orders.proofs.Over.{overlaps-self}
 use Rattle.dds_order_rows.specs.OwnOrder.{made_leaf}
+use Rattle.dds_pairs.proofs.Copies.{OrderCopied}
 use Rattle.dds_pairs.proofs.Names.{Fit, IsFit}
 use Rattle.dds_parents.proofs.SplitLeaves.{SplitsIn}
 use Rattle.dds_parents.specs.SplitLeaves.{HasSplitLeaf}
@@ -39,10 +41,12 @@ use Rattle.dds_world.specs.Groups as world
 
 -- At the end of its own split a brick serves two halves in the place of the split's leaf: they cover only keys that it covered, and pairs stay.
 
--- what the laws of leaves say of a brick: its leaves stand under their names, which are partitions', and an open split's is one of them
+-- what the laws of leaves say of a brick: its leaves stand under their names, which are partitions', and an open split's is one of them; what
+-- an order has copied lies under its name
 pub record IsPlaced (me : ℕ) (s : BrickState) : Type 0 where
-  pub owns : IsOwn me (own s)
+  pub both : IsBoth me (own s)
   pub named : Fit s
+  pub copied : OrderCopied s.order
   pub splits : SplitsIn s.leaves s.order
 
 -- a leaf over one of a key's names covers the key
@@ -81,7 +85,7 @@ record IsOfBrick (s : BrickState) (p : OpenOrder) : Type 0 where
 of-brick : (me : ℕ) (s : BrickState) (p : OpenOrder) → IsPlaced me s → IsOpen s p → p.task ≡ Split → IsOfBrick s p
 of-brick me s p h (was_open e) split =
     let it : HasSplitLeaf s.leaves p = h.splits p e (ap is_join split) in
-    let its : IsOrderly me p = orderly me s.order p e h.owns.order in
+    let its : IsOrderly me p = orderly me s.order p e h.both.0.order in
     record {
       leaf = it.leaf;
       fixed = it.fixed;
@@ -93,7 +97,7 @@ of-brick me s p h (was_open e) split =
           ∙ ap (made_name p.name) split;
     }
 of-brick me s p h (opens at leaf none there fixed name task phase) split =
-    let is : leaf.name ≡ at = (own-is (Named me at) (get s.leaves at) leaf there (h.owns.leaves at)).0 in
+    let is : leaf.name ≡ at = (own-is (Named me at) (get s.leaves at) leaf there (h.both.0.leaves at)).0 in
     record {
       leaf = leaf;
       fixed = fixed;

@@ -1,9 +1,12 @@
 -- What a change of a brick's leaves keeps, and what the values take of the end of a brick's own join: not proved here.
 use Rattle.std.specs.Prelude.{ℕ, ◌≡◌, true, false, List, Some, is_some}
 use Rattle.std.specs.FinMap.{get}
+use Rattle.std.specs.List.{AllByRecursion}
+use Rattle.dds_base.specs.Name.{covers}
 use Rattle.dds_base.specs.Op.{the_key}
 use Rattle.dds_base.specs.declared.leaf.Leaf.{Leaf}
 use Rattle.dds_base.specs.declared.number.NodeNo.{NodeNo}
+use Rattle.dds_base.specs.declared.pair.Pair.{Pair}
 use Rattle.dds_base.specs.declared.pending.Pending.{Pending}
 use Rattle.dds_brick_rows.specs.Refusal.{is_join}
 use Rattle.dds_cluster.specs.declared.trace.Made.{Made}
@@ -21,23 +24,26 @@ use Rattle.dds_values.specs.Values.{bound_in}
 abbrev pub IsCovered : BrickState → Pending → Type 0
 IsCovered s p = is_some (leaf_for s.leaves (the_key p.op)) ≡ true
 
--- a brick's leaves change: of a key that its leaves cover before and after it has the same, and of one that they come to cover what the
--- table has
+-- a brick has what the table has of each key that its leaves come to cover
+abbrev pub ComesHeld : List Made → BrickState → BrickState → Type 0
+ComesHeld made s u =
+    (key : ℕ) → is_some (leaf_for u.leaves key) ≡ true → is_some (leaf_for s.leaves key) ≡ false → get u.pairs key ≡ bound_in made key
+
+-- and has the same of each key that its leaves cover before and after
 pub record LeavesKeepHeld (made : List Made) (s u : BrickState) : Type 0 where
   pub stays :
       (key : ℕ) → is_some (leaf_for u.leaves key) ≡ true → is_some (leaf_for s.leaves key) ≡ true → get u.pairs key ≡ get s.pairs key
-  pub comes :
-      (key : ℕ) → is_some (leaf_for u.leaves key) ≡ true → is_some (leaf_for s.leaves key) ≡ false → get u.pairs key ≡ bound_in made key
+  pub comes : ComesHeld made s u
 
--- one order at two moments
+-- one order at two moments; what it has copied at the later one lies under its name
 abbrev pub IsAs : OpenOrder → OpenOrder → Type 0
-IsAs p o = (o.name ≡ p.name) × (o.task ≡ p.task)
+IsAs p o = (o.name ≡ p.name) × (o.task ≡ p.task) × AllByRecursion (λ (x : Pair). covers o.name x.key ≡ true) o.copied
 
--- so it is where the leaf that the brick's own join made is served
+-- where the leaf that the brick's own join made is served, the brick has what the table has of each key that it comes to cover
 abbrev pub WhereServed : List Made → BrickState → BrickState → Type 0
 WhereServed made s u =
     (p o : OpenOrder) (leaf : Leaf) → s.order ≡ Some p → IsAs p o → is_join o.task ≡ true → u.leaves ≡ (serving s o leaf o.task).leaves
-    → u.pairs ≡ (serving s o leaf o.task).pairs → LeavesKeepHeld made s u
+    → u.pairs ≡ (serving s o leaf o.task).pairs → ComesHeld made s u
 
 -- at a letter at which the own order goes on, which may end it: for a notice, where that has gone on
 abbrev pub OwnLeavesAt : List Made → BrickState → NodeNo → Letter → Type 0

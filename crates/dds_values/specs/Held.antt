@@ -20,9 +20,9 @@ use Rattle.dds_world.specs.Values.{entries_of_points}
 abbrev pub TalkAlong : OpeningOf → List Step → Type 0
 TalkAlong o journal = (at : ℕ) → OrdersTalk (net (sizes_of o) (world_at o journal at))
 
--- and at each of its steps, where a brick serves the leaf that its own join made, that keeps what is held
-abbrev pub JoinsKeepHeld : OpeningOf → List Step → Type 0
-JoinsKeepHeld o journal =
+-- and at each of its steps, where a brick serves the leaf that its own join made, it has what the points left of each key that it comes to cover
+abbrev pub JoinsServeTheTable : OpeningOf → List Step → Type 0
+JoinsServeTheTable o journal =
     (was more : List Step) (x : Step) (e : Event) → was ++ x ∷ more ≡ journal → IsNext o was x e → LeavesKept (history_of (run_of o was)) e
 
 -- the points are legal, reads that no answer used among them, and so is the history; and each live brick has what the points left, but for the
@@ -35,4 +35,4 @@ pub record ValuesHeld (o : OpeningOf) (journal : List Step) : Type 0 where
 
 abbrev pub HeldWhereGiven : Type 0
 HeldWhereGiven =
-    (o : OpeningOf) (journal : List Step) → IsOpening o → is_run o journal ≡ true → TalkAlong o journal → JoinsKeepHeld o journal → ValuesHeld o journal
+    (o : OpeningOf) (journal : List Step) → IsOpening o → is_run o journal ≡ true → TalkAlong o journal → JoinsServeTheTable o journal → ValuesHeld o journal
