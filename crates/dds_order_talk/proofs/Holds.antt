@@ -86,7 +86,7 @@ both-live e f (live h) = h
 both-live e f (lost cut h) = cc
 both-live e f gone = cc
 
-name-self : (x : Name) → same_name x x ≡ true
+pub name-self : (x : Name) → same_name x x ≡ true
 name-self x = grind (arith, nat_tests)
 
 -- a live member that granted: it holds the lease, and has the order's leaf, or what the order made

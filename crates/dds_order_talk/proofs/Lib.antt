@@ -11,3 +11,10 @@ pub mod MemberSide
 pub mod MemberHears
 pub mod OrderViews
 pub mod OrderBegins
+pub mod Speaking
+pub mod Sendings
+pub mod BrickViews
+pub mod BrickDeeds
+pub mod BrickTurns
+pub mod Speakers
+pub mod BrickHears

@@ -10,4 +10,4 @@ returns-clause-out c =
     let install = letter.Install c.args.order.number c.args.made in
     let sent = c.in_ok-letters.ensures ∙ ap (λ (nodes : List NodeNo). to_each nodes install) c.as_slice.ensures in
     asks-members c.args.state.now c.args.order c.args.made c.args.members c.letters.result (sym c.is_empty.ensures ∙ c.if-is_empty.false)
-        (c.letters.ensures ∙ ap letters_out sent)
+    (c.letters.ensures ∙ ap letters_out sent)
