@@ -10,3 +10,4 @@ pub mod BrickTells
 pub mod OrderTells
 pub mod LetterTells
 pub mod BrickFolds
+pub mod Going

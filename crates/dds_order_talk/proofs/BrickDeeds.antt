@@ -163,7 +163,7 @@ leaves-speaks j m t a b x out back (splits_none o there none parted e) f h =
     absurd (both_ways (is_join o.task) parted ((f o there).joins none))
 
 -- phases
-leasing-is : (p : OrderPhase) → order.is_leasing p ≡ true → p ≡ Leasing
+pub leasing-is : (p : OrderPhase) → order.is_leasing p ≡ true → p ≡ Leasing
 leasing-is Leasing h = refl
 leasing-is (Copying source) h = cc
 leasing-is (Installing made) h = cc

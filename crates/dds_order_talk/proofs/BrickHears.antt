@@ -84,7 +84,7 @@ heard-says from m l back rest q n a (of_it e f) g =
     ap (says q n) f ∙ ap (λ s. s ++ says q n rest) (g ∙ sym (by-it m a) ∙ ap (λ i. by i m a) (sym e))
 heard-says from m l back rest q n a (of_another ne f) g = ap (says q n) f ∙ ap (λ s. s ++ says q n rest) (sym (by-other from m a ne))
 
-heard-none : (from m : ℕ) (l : Letter) (back rest : List Letter) (q : Option OpenOrder) (n : Name) → Heard from m l back rest → say_of q n l ≡ []
+pub heard-none : (from m : ℕ) (l : Letter) (back rest : List Letter) (q : Option OpenOrder) (n : Name) → Heard from m l back rest → say_of q n l ≡ []
     → says q n back ≡ says q n rest
 heard-none from m l back rest q n (of_it e f) g = ap (says q n) f ∙ ap (λ s. s ++ says q n rest) g
 heard-none from m l back rest q n (of_another ne f) g = ap (says q n) f
@@ -97,7 +97,7 @@ unasked q n (letter.CopyAsk number name key) e = cc
 unasked q n (letter.Install number leaf) e = cc
 unasked q n other e = refl
 
-all-unasked : (q : Option OpenOrder) (n : Name) (ls : List Letter) → AllByRecursion (λ l. asked_of l ≡ None) ls → asks q n ls ≡ []
+pub all-unasked : (q : Option OpenOrder) (n : Name) (ls : List Letter) → AllByRecursion (λ l. asked_of l ≡ None) ls → asks q n ls ≡ []
 all-unasked q n [] h = refl
 all-unasked q n (l ∷ ls) h = ap (λ a. a ++ asks q n ls) (unasked q n l h.0) ∙ all-unasked q n ls h.1
 

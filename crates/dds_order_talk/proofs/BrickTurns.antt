@@ -43,7 +43,7 @@ use Rattle.dds_order_talk.specs.Table.AsksFor.{by_leaf, by_name}
 -- A trip of a brick's deeds keeps its conversations with one member.
 
 -- a deed changes nothing of what the brick knows
-deed-known : (x y : Seat) (ls : List (NodeNo × Letter)) → Deed x ls y → y.own.known ≡ x.own.known
+pub deed-known : (x y : Seat) (ls : List (NodeNo × Letter)) → Deed x ls y → y.own.known ≡ x.own.known
 deed-known x _ ls (says _ others) = refl
 deed-known x y ls (takes mine leaf may) = refl
 deed-known x y ls (pends p may) = refl
@@ -66,7 +66,7 @@ pub other-number : (number : ℕ) (l : Letter) → is_of_orders l ≡ false → 
 other-number number l e =
     let k = others-asked l e in (λ n f. absurd (not-none n (sym k.0 ∙ f)), λ n f. absurd (not-none n (sym k.1 ∙ f)))
 
-none-gained : (z : Sizes) (m : ℕ) → gains z [] m ≡ []
+pub none-gained : (z : Sizes) (m : ℕ) → gains z [] m ≡ []
 none-gained z m = in-none (is_in z m)
   where
     in-none : (c : Bool) → when_in c [] ≡ []

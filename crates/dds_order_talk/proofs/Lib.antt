@@ -18,3 +18,6 @@ pub mod BrickDeeds
 pub mod BrickTurns
 pub mod Speakers
 pub mod BrickHears
+pub mod BrickHeard
+pub mod BrickWhole
+pub mod MemberTurns

@@ -119,16 +119,16 @@ ask-again l q e f g (told own) = cc
 ask-again l q e f g (said_so new) = cc
 ask-again l q e f g (done new) = cc
 
-again : {x : Name} {Own New OwnAfter NewAfter : Tells} {v : View} {o out : List Ask} {given gave : Bool} {b cut : List Say} {leaf : Leaf}
+again : {x : Name} {OwnAfter NewAfter : Tells} {v : View} {o out : List Ask} {given gave : Bool} {b : List Say} {leaf : Leaf} (cut : List Say)
     → IsWaits v → ((what : Option Leaf) → v ≡ Waits what → HasAsk x what)
     → Talk x (λ l. Unit {0}) (λ l. Unit {0}) v out gave (granted leaf ∷ (b ++ cut)) → Talks x OwnAfter NewAfter true false v o given b
-again {cut = cut} (is_waits what e) f h = elim (f what e) [ has_ask l q ↦ lost cut (ask-again l what refl e q h) ]
+again cut (is_waits what e) f h = elim (f what e) [ has_ask l q ↦ lost cut (ask-again l what refl e q h) ]
 
 pub drops-grant : {x : Name} {Own New : Tells} {lives : Bool} {v : View} {o : List Ask} {given : Bool} {b : List Say} {leaf : Leaf}
     → (lives ≡ true → IsUntaken x Own v leaf) → ((what : Option Leaf) → v ≡ Waits what → HasAsk x what)
     → Talks x Own New true lives v o given (granted leaf ∷ b) → Talks x Own New true lives v o given b
 drops-grant f g (live h) = absurd (grant-taken refl (f refl) h)
-drops-grant f g (lost cut h) = again {cut = cut} (first-said refl h) g h
+drops-grant f g (lost cut h) = again cut (first-said refl h) g h
 
 -- what the order's phase is then
 pub record WaitsFor (o : OpenOrder) (m : ℕ) (p : OrderPhase) (what : Option Leaf) : Type 0 where
