@@ -46,7 +46,7 @@ use Rattle.dds_order_talk.proofs.Members.{Asks, in-unknown, it-has, not-has}
 use Rattle.dds_order_talk.proofs.Moves.{Ends, Takes}
 use Rattle.dds_order_talk.proofs.OrderBegins.{copy-moves, fix-moves, last-moves, make-moves, open-moves, to_some}
 use Rattle.dds_order_talk.proofs.OrderViews.{by, more-moves, stays-as}
-use Rattle.dds_order_talk.proofs.Projections.{IsLeaseOf, IsNotOf, asks-append, new-asks, others-ask}
+use Rattle.dds_order_talk.proofs.Projections.{IsLeaseOf, IsNotAsked, IsNotSaid, asks-append, new-asks, new-says, others-ask}
 use Rattle.dds_order_talk.proofs.Sendings.{Once, apart-copy, apart-install, apart-lease, apart-releases, each-asks, each-asks-none, own-copy, own-install}
 use Rattle.dds_order_talk.proofs.Sendings.{own-lease, release-asks, released-times, times}
 use Rattle.dds_order_talk.proofs.Speaking.{GoesOn, IsOver, Line, Opens, Speaks, doing_of, speaks-on, speaks-opens, speaks-over}
@@ -80,7 +80,7 @@ Fits q = (o : OpenOrder) → q ≡ Some o → OrderFits o
 -- lists each once, and the one that granted
 abbrev pub Owed : Stage → Seat → List Letter → List Letter → Type 0
 Owed told_order x out back =
-    AllByRecursion (IsNotOf x.orders) out × AllByRecursion (IsNotOf x.orders) back
+    AllByRecursion (IsNotAsked x.orders) out × AllByRecursion (IsNotSaid x.orders) back
     × ((at : Name) (leaf : Leaf) → get x.own.leaves at ≡ Some leaf → Once leaf.list)
 Owed nothing_owed x out back = Unit {0}
 Owed (leaf_owed from leaf) x out back = Once leaf.list × (has leaf.list from ≡ true)
@@ -178,15 +178,15 @@ source-other x o m f e n g = ne_eqb n m (λ h. not-known x.own.known n m (f n g)
 -- what an order opens with
 pub opens-asking : (z : Sizes) (m : ℕ) (x : Seat) (p : OpenOrder) (what : Wanted) (out back : List Letter) → m < 64 → is_in z m ≡ true
     → p.phase ≡ Leasing → p.granted ≡ [] → AsksFor p.name p.leaf what → wanted_name what ≡ p.name → Once p.waiting
-    → AllByRecursion (IsNotOf p.number) out → AllByRecursion (IsNotOf p.number) back
+    → AllByRecursion (IsNotAsked p.number) out → AllByRecursion (IsNotSaid p.number) back
     → Opens m p out back (gains z (to_each p.waiting (letter.Lease p.number what)) m)
 opens-asking z m x p what out back low inside phase none asks_for name once new also =
     record {
       asked = to_some p.waiting m (lease what);
       move = subst (λ f. Takes p.name Off [] (phase_view rests p m f) (to_some p.waiting m (lease what))) (sym phase)
           (open-moves p.name p m what (ap (λ ns. has ns m) none) asks_for);
-      out_is = λ n. (new-asks p n out new).0;
-      back_is = λ n. (new-asks p n back also).1;
+      out_is = λ n. new-asks p n out new;
+      back_is = λ n. new-says p n back also;
       sends = each-asks z m p.waiting (Some p) p.name (letter.Lease p.number what) (lease what) low inside once (own-lease p what (name-self p.name));
       sends_apart = λ n e. each-asks-none z m p.waiting (Some p) n (letter.Lease p.number what) low inside once (apart-lease p n what name e);
     }

@@ -34,7 +34,7 @@ use Rattle.dds_order_talk.proofs.BrickDeeds.{fixes-on, leaves-speaks, loses-on, 
 use Rattle.dds_order_talk.proofs.BrickDeeds.{speaks-beside, that-fits}
 use Rattle.dds_order_talk.proofs.Kept.{kept-deed}
 use Rattle.dds_order_talk.proofs.Members.{Asks, append-parts, in-without}
-use Rattle.dds_order_talk.proofs.Projections.{IsNotOf}
+use Rattle.dds_order_talk.proofs.Projections.{IsNotAsked}
 use Rattle.dds_order_talk.proofs.Speaking.{Speaks, doing_of, speaks-on, speaks-opens, speaks-over}
 use Rattle.dds_order_talk.proofs.Sendings.{Once}
 use Rattle.dds_order_talk.specs.Seen.{rests, took_first, took_part}
@@ -62,9 +62,8 @@ the-leaf : (a b : Leaf) → Some a ≡ Some b → a ≡ b
 the-leaf a b e = cc
 
 -- letters of no order
-pub other-number : (number : ℕ) (l : Letter) → is_of_orders l ≡ false → IsNotOf number l
-other-number number l e =
-    let k = others-asked l e in (λ n f. absurd (not-none n (sym k.0 ∙ f)), λ n f. absurd (not-none n (sym k.1 ∙ f)))
+other-number : (number : ℕ) (l : Letter) → is_of_orders l ≡ false → IsNotAsked number l
+other-number number l e = let k = others-asked l e in λ n f. absurd (not-none n (sym k.0 ∙ f))
 
 pub none-gained : (z : Sizes) (m : ℕ) → gains z [] m ≡ []
 none-gained z m = in-none (is_in z m)
@@ -152,7 +151,7 @@ deed-fits j a b x y ls out back (serves o made e phase) q asks f w = none-fits
 still-owed : (a : Stage) (x : Seat) (out more back : List Letter) → AllByRecursion (λ l. is_of_orders l ≡ false) more → Owed a x out back
     → Owed a x (out ++ more) back
 still-owed told_order x out more back h w =
-    (all-append (IsNotOf x.orders) out more w.0 (all-map _ (IsNotOf x.orders) more (λ l e. other-number x.orders l e) h), w.1, w.2)
+    (all-append (IsNotAsked x.orders) out more w.0 (all-map _ (IsNotAsked x.orders) more (λ l e. other-number x.orders l e) h), w.1, w.2)
 still-owed nothing_owed x out more back h w = tt
 still-owed (leaf_owed from leaf) x out more back h w = w
 still-owed part_owed x out more back h w = tt

@@ -32,7 +32,7 @@ use Rattle.dds_order_talk.specs.Table.Say.{granted, installed}
 -- A brick's whole turn at a letter, and its conversations with one member.
 
 -- a brick forgets nobody that has stopped
-path-known : (x z : Seat) (ls : List (NodeNo × Letter)) → Path x ls z → z.own.known ≡ x.own.known
+pub path-known : (x z : Seat) (ls : List (NodeNo × Letter)) → Path x ls z → z.own.known ≡ x.own.known
 path-known x _ _ (over _) = refl
 path-known x z _ (step _ y _ ls ms d w) = path-known y z ms w ∙ deed-known x y ls d
 

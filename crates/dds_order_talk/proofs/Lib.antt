@@ -21,3 +21,6 @@ pub mod BrickHears
 pub mod BrickHeard
 pub mod BrickWhole
 pub mod MemberTurns
+pub mod Talking
+pub mod LetterEvents
+pub mod TalkKeeps

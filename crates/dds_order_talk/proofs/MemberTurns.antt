@@ -144,7 +144,7 @@ answer-silent : (from j : ℕ) (l : Letter) (y : Seat) (p : NodeNo × Letter) �
 answer-silent from j l y p ne (own s) = inl s.said
 answer-silent from j l y p ne (answers to none asks) = inr (λ e. ne (sym to ∙ e))
 
-sent-silent : (j : ℕ) (y : Seat) (ls : List (NodeNo × Letter)) → AllByRecursion (Sent y) ls → AllByRecursion (IsSilent j) ls
+pub sent-silent : (j : ℕ) (y : Seat) (ls : List (NodeNo × Letter)) → AllByRecursion (Sent y) ls → AllByRecursion (IsSilent j) ls
 sent-silent j y ls h = all-map (Sent y) (IsSilent j) ls (λ p s. inl s.said) h
 
 sent-append : (ls ms : List (NodeNo × Letter)) → sent (ls ++ ms) ≡ sent ls ++ sent ms

@@ -157,3 +157,16 @@ taking s leaf (Some mine) e =
 
 pub take : (s : BrickState) (leaf : Leaf) → Idle (seat s) (seat (takes.take s leaf))
 take s leaf = taking s leaf (own_leaf s.leaves leaf.name) refl
+
+order-if : (c : Bool) (s u : BrickState) → u.order ≡ s.order → (if c then u else s).order ≡ s.order
+order-if true s u e = e
+order-if false s u e = refl
+
+taken-order : (s : BrickState) (leaf : Leaf) (mine : Option Leaf) → (takes.take_over s leaf mine).order ≡ s.order
+taken-order s leaf None = refl
+taken-order s leaf (Some mine) =
+    order-if (may_take s.number mine leaf (has_node s.known) (takes.is_free s mine.name)) s
+    (record s { leaves = takes.replaced s.leaves mine leaf }) refl
+
+pub take-order : (s : BrickState) (leaf : Leaf) → (takes.take s leaf).order ≡ s.order
+take-order s leaf = taken-order s leaf (own_leaf s.leaves leaf.name)

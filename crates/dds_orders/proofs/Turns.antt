@@ -115,6 +115,7 @@ pub record Turns (from : NodeNo) (x : Seat) (l : Letter) (t : BrickTurn) : Type 
   pub hears : Hears from first l answers next
   pub goes : Path next letters (seat t.state)
   pub idle : Idle x first
+  pub first_order : first.own.order ≡ x.own.order
   pub trip : Trip (owed hears) next letters nothing_owed (seat t.state)
   pub all : t.out.letters ≡ answers ++ letters
 
@@ -131,6 +132,7 @@ turns {x = x} {y = y} {ls = ls} t h q e is =
       hears = h;
       goes = path-of w;
       idle = arrives nothing_owed x;
+      first_order = refl;
       trip = w;
       all = e;
     }
@@ -146,12 +148,13 @@ turns-on {x = x} {y = y} t h g =
       hears = h;
       goes = g.path;
       idle = arrives nothing_owed x;
+      first_order = refl;
       trip = g.trip;
       all = refl;
     }
 
-taken-then : {from : NodeNo} {x y : Seat} {l : Letter} (t : BrickTurn) → Idle x y → Turns from y l t → Turns from x l t
-taken-then t p h =
+taken-then : {from : NodeNo} {x y : Seat} {l : Letter} (t : BrickTurn) → Idle x y → y.own.order ≡ x.own.order → Turns from y l t → Turns from x l t
+taken-then t p e h =
     record {
       first = h.first;
       next = h.next;
@@ -161,6 +164,7 @@ taken-then t p h =
       hears = h.hears;
       goes = h.goes;
       idle = through p h.idle;
+      first_order = h.first_order ∙ e;
       trip = h.trip;
       all = h.all;
     }
@@ -201,7 +205,7 @@ lease_row s from number (wanted.Name name) u = answering s from number (wanted.N
 lease_row s from number (wanted.Leaf leaf) u =
     let t = takes.take s leaf in
     let known : has_node t.known from ≡ false = ap (λ k. has_node k from) (take-known s leaf (own_leaf s.leaves leaf.name)) ∙ u in
-    taken-then _ (rows.take s leaf) (answering t from number (wanted.Leaf leaf) (lease_refusal t leaf.name (Some leaf.stamp)) refl known)
+    taken-then _ (rows.take s leaf) (rows.take-order s leaf) (answering t from number (wanted.Leaf leaf) (lease_refusal t leaf.name (Some leaf.stamp)) refl known)
 
 copy_ask_row : (s : BrickState) (from : NodeNo) (number : ℕ) (name : Name) (place : Option ℕ)
     → Turns from (seat s) (letter.CopyAsk number name place) (orders.copy_ask_row s from number name place)
