@@ -351,7 +351,7 @@ loses-on z j m x o y back w known =
 same-as : (a b : Name) → a ≡ b → same_name a b ≡ true
 same-as a b e = ap (λ n. same_name n b) e ∙ name-self b
 
-lease-of : (j : ℕ) (x : Seat) (o : OpenOrder) (l : Letter) → Stood j x → x.own.order ≡ Some o → IsCounted x l → IsLeaseOf o l
+pub lease-of : (j : ℕ) (x : Seat) (o : OpenOrder) (l : Letter) → Stood j x → x.own.order ≡ Some o → IsCounted x l → IsLeaseOf o l
 lease-of j x o (letter.Lease number (wanted.Name name)) h there c =
     λ e. same-as name o.name ((c number refl).of o there (eqb-true o.number number e))
 lease-of j x o (letter.Lease number (wanted.Leaf leaf)) h there c =

@@ -124,8 +124,8 @@ told-at z n at from l s c =
 
 unlisted-at : (z : Sizes) (n : Net) (at from b : NodeNo) (l : Letter) (s t : BrickState) (c : Comes z n at from l s) → n.node b ≡ a_brick t
     → (b ≡ at → ⊥) → IsUnlisted at t l c.turn.first.own.order
-unlisted-at z n at from b l s t c there ne number leaf o e open none lives is =
-    c.wanted.unlisted at b s t o leaf c.takes.here there c.takes.live lives ne (sym c.turn.first_order ∙ open) none is
+unlisted-at z n at from b l s t c there ne number leaf o e opened none lives is =
+    c.wanted.unlisted at b s t o leaf c.takes.here there c.takes.live lives ne (sym c.turn.first_order ∙ opened) none is
 
 -- the brick with another one
 brick-hears : (z : Sizes) (n : Net) (at from b : NodeNo) (l : Letter) (s : BrickState) (c : Comes z n at from l s) (y : Node) (rest : List Letter)

@@ -23,4 +23,5 @@ pub mod BrickWhole
 pub mod MemberTurns
 pub mod Talking
 pub mod LetterEvents
+pub mod RightLetters
 pub mod TalkKeeps

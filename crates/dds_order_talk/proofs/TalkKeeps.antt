@@ -9,7 +9,7 @@ use Rattle.dds_base.specs.declared.op.Order.{Order}
 use Rattle.dds_cluster.specs.World.{emptied}
 use Rattle.dds_cluster.specs.declared.trace.Caller.{Caller}
 use Rattle.dds_core.proofs.Lists.{all-map}
-use Rattle.dds_core.specs.Brick.{brick_input}
+use Rattle.dds_core.specs.Brick.{brick_input, live_brick_turn}
 use Rattle.dds_core.specs.LibraryTurn.{live_library_turn}
 use Rattle.dds_law_own.proofs.Keeps.{of-another}
 use Rattle.dds_letters.specs.declared.letter.Letter.{Letter}
@@ -24,7 +24,7 @@ use Rattle.dds_net.specs.Net.{Net, Node, nowhere, a_brick, a_library, Sizes, cha
 use Rattle.dds_orders.proofs.Deeds.{nothing_owed, seat, told_order}
 use Rattle.dds_orders.proofs.Numbered as numbered
 use Rattle.dds_orders.proofs.Numbered.{told-stopped}
-use Rattle.dds_orders.proofs.Turns.{letter-turns, order-goes}
+use Rattle.dds_orders.proofs.Turns.{Turns, letter-turns, order-goes}
 use Rattle.dds_states.specs.declared.brick_state.BrickState.{BrickState}
 use Rattle.dds_states.specs.declared.brick_state.OpenOrder.{OpenOrder}
 use Rattle.dds_states.specs.declared.library_state.LibraryState.{LibraryState}
@@ -32,11 +32,13 @@ use Rattle.dds_order_talk.proofs.BrickDeeds.{IsCounted, Other, Side}
 use Rattle.dds_order_talk.proofs.BrickTurns.{none-gained, side-trip}
 use Rattle.dds_order_talk.proofs.BrickWhole.{path-known}
 use Rattle.dds_order_talk.proofs.Kept.{kept-path}
-use Rattle.dds_order_talk.proofs.LetterEvents.{AreRight, from-here, inside-of, letter-talks, talking-self, to-here}
+use Rattle.dds_order_talk.proofs.LetterEvents.{from-here, inside-of, letter-talks, talking-self, to-here}
+use Rattle.dds_order_talk.proofs.MemberHears.{sent}
 use Rattle.dds_order_talk.proofs.MemberSide.{member-path}
 use Rattle.dds_order_talk.proofs.MemberTurns.{sent-silent, silent-gains}
 use Rattle.dds_order_talk.proofs.Moves.{Tells, member-stops}
 use Rattle.dds_order_talk.proofs.Projections.{IsNotAsked, IsNotSaid, says-append}
+use Rattle.dds_order_talk.proofs.RightLetters.{LeavesFit, right-of}
 use Rattle.dds_order_talk.proofs.Speaking.{Speaks}
 use Rattle.dds_order_talk.proofs.Talking.{TalkWith, Talking, Wanted, asks-at, low-at, side-at, speaks-of, stood-at, talk-gone, talk-of}
 use Rattle.dds_order_talk.specs.Seen.{BrickTalk, New, Own, asks, rests, says, view}
@@ -253,7 +255,9 @@ order-talks z n at o s built w here g =
 
 -- each event
 abbrev pub MayTake : Net → Event → Type 0
-MayTake n (brick_takes at from l s) = AreRight n from l s
+MayTake n (brick_takes at from l s) =
+    (sj : BrickState) (x : Name) (u : Turns from (seat s) l (live_brick_turn s from l)) → n.node from ≡ a_brick sj → sj.stopped ≡ false
+    → LeavesFit from x sj.order l u.first u.next (says sj.order x (sent u.answers))
 MayTake n other = Unit {0}
 
 pub talks-kept : (z : Sizes) (cs : List Caller) (n : Net) (e : Event) → z.bricks ≤ 64 → z.libraries ≤ 16 → IsBuilt z n → Fits z cs n e → Wanted z n
@@ -269,7 +273,7 @@ talks-kept z cs n (brick_takes at from l s) few some built f w r g =
       takes = f;
       another = another;
       turn = letter-turns s from l another;
-      right = r;
+      right = λ sj x u e alive. right-of z n at from l s sj x u.first u.next (says sj.order x (sent u.answers)) w f e alive (r sj x u e alive);
       talks = g;
     })
 talks-kept z cs n (brick_told at o s) few some built f w r g = order-talks z n at o s built w f.here g

@@ -1,0 +1,86 @@
+use Rattle.std.proofs.Common.{◌≡◌, ℕ, ◌==◌, ◌&&◌, ◌++◌, Bool, true, false, not, Option, Some, None, List, [], ◌∷◌, refl, sym, ap, ◌∙◌, subst}
+use Rattle.std.proofs.lemmas.Bool.{and_parts, both_ways, eqb-true}
+use Rattle.std.specs.FinMap.{get}
+use Rattle.dds_base.specs.Name.{Name, same_name}
+use Rattle.dds_base.specs.declared.leaf.Leaf.{Leaf}
+use Rattle.dds_base.specs.declared.number.NodeNo.{NodeNo}
+use Rattle.dds_brick_rows.specs.Refusal.{is_found}
+use Rattle.dds_core.proofs.Tells.{is_notice}
+use Rattle.dds_law_notice.proofs.Link.{Link, Silent, lives, over, told}
+use Rattle.dds_law_notice.proofs.Views.{view}
+use Rattle.dds_letters.specs.declared.letter.Letter.{Letter}
+use Rattle.dds_letters.specs.declared.letter.Letter.TheVariants as letter
+use Rattle.dds_letters.specs.declared.refusal.Wanted.{Wanted}
+use Rattle.dds_letters.specs.declared.refusal.Wanted.TheVariants as wanted
+use Rattle.dds_locks.specs.Leases.{is_given}
+use Rattle.dds_net.proofs.Letters.{first-all}
+use Rattle.dds_net.specs.Event.{IsFirst, Takes}
+use Rattle.dds_net.specs.Net.{Net, Node, a_brick, Sizes}
+use Rattle.dds_orders.proofs.Deeds.{Seat, seat}
+use Rattle.dds_orders.proofs.Leases.{same-is}
+use Rattle.dds_orders.proofs.Standing.{Stood}
+use Rattle.dds_states.specs.declared.brick_state.BrickState.{BrickState}
+use Rattle.dds_states.specs.declared.brick_state.OpenOrder.{OpenOrder}
+use Rattle.dds_order_talk.proofs.BrickDeeds.{IsCounted, lease-of}
+use Rattle.dds_order_talk.proofs.MemberHears.{IsRight}
+use Rattle.dds_order_talk.proofs.Moves.{Stays}
+use Rattle.dds_order_talk.proofs.Talking as talking
+use Rattle.dds_order_talk.proofs.Talking.{counted-at, stood-at}
+use Rattle.dds_order_talk.specs.Seen.{New, Own, is_its, is_named, wanted_name}
+use Rattle.dds_order_talk.specs.Table.{Say}
+use Rattle.dds_order_talk.specs.Table.Say.{installed}
+
+-- A letter of a live brick's open order says the order's name, and a live node sends no notice: of what is wanted of a letter to a member,
+-- what is left is about leaves.
+
+-- a leaf of one name and stamp is one leaf; a leaf that an order made is installed, under the order's lease alone
+pub record LeavesFit (j : ℕ) (x : Name) (q : Option OpenOrder) (l : Letter) (m n : Seat) (said : List Say) : Type 0 where
+  pub leaf :
+      (number : ℕ) (told own : Leaf) → l ≡ letter.Lease number (wanted.Leaf told) → get m.own.leaves told.name ≡ Some own
+      → is_found (Some told.stamp) (Some own) ≡ true → told ≡ own
+  pub install :
+      (number : ℕ) (made own : Leaf) → l ≡ letter.Install number made → is_its q number ≡ true → is_named q x ≡ true → Own m.own.leaves x own
+      → New n.own.leaves x made × (said ≡ installed ∷ [])
+  pub apart :
+      (number : ℕ) (made : Leaf) → l ≡ letter.Install number made → is_its q number ≡ true → is_named q x ≡ false
+      → (said ≡ []) × Stays (Own m.own.leaves x) (Own n.own.leaves x) (is_given m.own.leases x j)
+      × Stays (New m.own.leaves x) (New n.own.leaves x) (is_given m.own.leases x j)
+
+no-notice : {deaf stopped known : Bool} (c others : List Letter) (l : Letter) → c ≡ l ∷ others → Link deaf c stopped known → stopped ≡ false
+    → is_notice l ≡ false
+no-notice c others l e (lives s) f = (subst Silent e s).0
+no-notice c others l e (told front g s) f = cc
+no-notice c others l e (over known g k) f = cc
+
+lease-named : (j : ℕ) (x : Seat) (q : Option OpenOrder) (n : Name) (l : Letter) (number : ℕ) (what : Wanted) → Stood j x → x.own.order ≡ q
+    → IsCounted x l → l ≡ letter.Lease number what → (is_its q number && is_named q n) ≡ true → same_name (wanted_name what) n ≡ true
+lease-named j x None n l number what h there c e f = let no : false ≡ true = f in cc
+lease-named j x (Some o) n l number what h there c e f =
+    let p = and_parts (o.number == number) (same_name o.name n) f in
+    let it = lease-of j x o (letter.Lease number what) h there (subst (IsCounted x) e c) p.0 in
+    ap (λ y. same_name y n) (same-is (wanted_name what) o.name it) ∙ p.1
+
+copy-named : (x : Seat) (q : Option OpenOrder) (n name : Name) (l : Letter) (number : ℕ) (key : Option ℕ) → x.own.order ≡ q → IsCounted x l
+    → l ≡ letter.CopyAsk number name key → is_its q number ≡ true → is_named q n ≡ true → name ≡ n
+copy-named x None n name l number key there c e f g = let no : false ≡ true = f in cc
+copy-named x (Some o) n name l number key there c e f g =
+    let it = (subst (IsCounted x) e c number refl).of o there (eqb-true o.number number f) in it.0 ∙ same-is o.name n g
+
+pub right-of : (z : Sizes) (n : Net) (at from : NodeNo) (l : Letter) (s sj : BrickState) (x : Name) (m next : Seat) (said : List Say)
+    → talking.Wanted z n → Takes z n at from l (a_brick s) → n.node from ≡ a_brick sj → sj.stopped ≡ false
+    → LeavesFit from x sj.order l m next said → IsRight from x sj.order (not sj.stopped) l m next said
+right-of z n at from l s sj x m next said w f there alive fit =
+    let c = first-all (IsCounted (seat sj)) z n at from l f.letter (counted-at z n from at sj w there alive) in
+    let stood = stood-at z n from sj w there in
+    record {
+      lease = λ number what e k. lease-named from (seat sj) sj.order x l number what stood refl c e k;
+      leaf = fit.leaf;
+      copy = λ number name key e k i. copy-named (seat sj) sj.order x name l number key refl c e k i;
+      install = fit.install;
+      apart = fit.apart;
+      notice = λ e.
+          let link = w.stood.links from at f.letter.receiver in
+          let quiet = no-notice (n.channel from at) f.letter.others l f.letter.first link
+          (ap (λ (y : Node). (view y).stopped && not (from == at)) there ∙ ap (λ d. d && not (from == at)) alive) in
+          absurd (both_ways (is_notice l) quiet (ap is_notice e));
+    }
