@@ -237,6 +237,8 @@ letter-talks z n at from l s c =
           (from-here at from (n.node at) s (n.node from) (n.channel at from) (n.channel from at) f.here (c.talks at from));
       heard = λ ne h. sender-hears z n at from l s c (n.node from) f.letter.others (n.channel at from) refl ne
           (to-here from at (n.node from) (n.node at) s (l ∷ f.letter.others) (n.channel at from) f.here h);
-      own = λ ne h. talking-self at (a_brick t.state) (a_brick t.state) _ _;
-      own_heard = λ e h. talking-self at (a_brick t.state) (a_brick t.state) _ _;
+      own = λ ne h. talking-self at (a_brick t.state) (a_brick t.state) (n.channel at at ++ gains z t.out.letters at)
+          (n.channel at at ++ gains z t.out.letters at);
+      own_heard = λ e h. talking-self at (a_brick t.state) (a_brick t.state) (f.letter.others ++ gains z t.out.letters at)
+          (f.letter.others ++ gains z t.out.letters at);
     }) c.talks

@@ -158,7 +158,7 @@ pub stop-talks : (z : Sizes) (n : Net) (at : ℕ) (s t : BrickState) (kept : ℕ
     → Pairs Talking n → Pairs Talking (changed n (stops z n at (a_brick t) kept))
 stop-talks z n at s t kept f e g =
     pairs-changed Talking n (stops z n at (a_brick t) kept) (record {
-      own = talking-self at (a_brick t) (a_brick t) _ _;
+      own = talking-self at (a_brick t) (a_brick t) (kept at ++ notice_to z at at) (kept at ++ notice_to z at at);
       from = λ b nb. gone-with at b t (n.node b) _ _ e;
       to = λ a na.
           let cut = f.left.front a in
@@ -250,7 +250,8 @@ order-talks z n at o s built w here g =
           (from-here at b (n.node at) s (n.node b) (n.channel at b) (n.channel b at) here h);
       back = λ a na h. told-others z n at a o s (n.node a) (n.channel a at) (n.channel at a) built w here refl na
           (to-here a at (n.node a) (n.node at) s (n.channel a at) (n.channel at a) here h);
-      own = λ h. talking-self at (a_brick (brick_input s o).state) (a_brick (brick_input s o).state) _ _;
+      own = λ h. talking-self at (a_brick (brick_input s o).state) (a_brick (brick_input s o).state)
+          (n.channel at at ++ gains z (brick_input s o).out.letters at) (n.channel at at ++ gains z (brick_input s o).out.letters at);
     }) g
 
 -- each event
