@@ -2,7 +2,6 @@ use Rattle.std.proofs.Common.{◌≡◌, ℕ, ◌==◌, ◌&&◌, ◌++◌, Bool
 use Rattle.std.proofs.lemmas.Bool.{and_parts, eq-eqb}
 use Rattle.std.proofs.lemmas.List.{append-nil}
 use Rattle.std.specs.Prelude.{if◌then◌else◌}
-use Rattle.std.specs.List.{AllByRecursion}
 use Rattle.dds_base.specs.BrickList.{has}
 use Rattle.dds_base.specs.Name.{Name, same_name}
 use Rattle.dds_base.specs.declared.leaf.Leaf.{Leaf}
@@ -15,9 +14,9 @@ use Rattle.dds_net.specs.Net.{Sizes, gains}
 use Rattle.dds_order_rows.specs.OwnOrder as order
 use Rattle.dds_orders.proofs.Counting as counting
 use Rattle.dds_orders.proofs.Counting.{not-none}
-use Rattle.dds_orders.proofs.Deeds.{Seat, Stage, leaf_owed, nothing_owed, owed_at}
+use Rattle.dds_orders.proofs.Deeds.{Seat, nothing_owed, owed_at}
 use Rattle.dds_orders.proofs.Standing.{heard-stood}
-use Rattle.dds_orders.proofs.Turns.{Finds, Hears, copies_not, denies, gives, grants, grants_not, hears_other, installed_not, installs, installs_not}
+use Rattle.dds_orders.proofs.Turns.{Hears, copies_not, denies, gives, grants, grants_not, hears_other, installed_not, installs, installs_not}
 use Rattle.dds_orders.proofs.Turns.{is_installed, is_refused, learns, owed, refused_not, releases, sends_none, sends_part, source-is}
 use Rattle.dds_orders.proofs.Turns.{copies as copies_part}
 use Rattle.dds_orders.specs.Law.{asked_of}
@@ -26,7 +25,8 @@ use Rattle.dds_states.specs.declared.brick_state.BrickState.{BrickState}
 use Rattle.dds_states.specs.declared.brick_state.OpenOrder.{OpenOrder}
 use Rattle.dds_states.specs.declared.brick_state.OrderPhase.{OrderPhase}
 use Rattle.dds_states.specs.declared.brick_state.OrderPhase.TheVariants.{Copying, Installing, Leasing}
-use Rattle.dds_order_talk.proofs.BrickDeeds.{Fits, IsCounted, OrderFits, Other, Owed, Side, all-gains, at-order, closing-over, leasing-is, none-fits, that-fits}
+use Rattle.dds_order_talk.proofs.BrickSide.{Fits, IsCounted, OrderFits, Other, Owed, Side, all-gains, at-order, leasing-is, none-fits, that-fits}
+use Rattle.dds_order_talk.proofs.BrickDeeds.{closing-over}
 use Rattle.dds_order_talk.proofs.BrickHears.{Heard, IsUnlisted, Told, all-unasked, drops-untaken, heard-none, heard-says, installed-taken, not-taken, of_it}
 use Rattle.dds_order_talk.proofs.BrickHears.{of_another, refusal-taken, same-speaks}
 use Rattle.dds_order_talk.proofs.BrickTurns.{none-gained}
@@ -39,11 +39,11 @@ use Rattle.dds_order_talk.proofs.OrderViews.{by, by-it, by-other, doing, grant-m
 use Rattle.dds_order_talk.proofs.Projections.{other-asks}
 use Rattle.dds_order_talk.proofs.Sendings.{Once}
 use Rattle.dds_order_talk.proofs.Speakers.{IsWaits, drops-part, is_waits, says-first}
-use Rattle.dds_order_talk.proofs.Speaking.{GoesOn, IsOver, Line, Speaks, doing_of, speaks-on, speaks-over}
+use Rattle.dds_order_talk.proofs.Speaking.{Line, Speaks, doing_of, speaks-on, speaks-over}
 use Rattle.dds_order_talk.specs.Seen.{Doing, asks, one, phase_view, rests, say_of, says, took_part}
 use Rattle.dds_order_talk.specs.Table.{Say, View}
 use Rattle.dds_order_talk.specs.Table.Say.{granted, refused, part, installed}
-use Rattle.dds_order_talk.specs.Table.View.{Off, Waits}
+use Rattle.dds_order_talk.specs.Table.View.{Off}
 
 -- Each letter that a brick hears is a move of its conversations with one member.
 

@@ -1,5 +1,5 @@
 use Rattle.std.proofs.Common.{◌≡◌, ℕ, ◌==◌, ◌&&◌, ◌||◌, ◌++◌, Bool, true, false, not, inl, inr, Option, Some, None, List, [], ◌∷◌, refl, sym, ap, ◌∙◌, subst}
-use Rattle.std.proofs.lemmas.Bool.{and_parts, both_ways, cases_Bool, eqb-true}
+use Rattle.std.proofs.lemmas.Bool.{both_ways, cases_Bool}
 use Rattle.std.proofs.lemmas.List.{append-nil}
 use Rattle.std.specs.FinMap.{get}
 use Rattle.std.specs.List.{AllByRecursion}
@@ -7,42 +7,27 @@ use Rattle.std.specs.Prelude.{if◌then◌else◌}
 use Rattle.dds_base.specs.BrickList.{has}
 use Rattle.dds_base.specs.Name.{Name, same_name}
 use Rattle.dds_base.specs.declared.leaf.Leaf.{Leaf}
-use Rattle.dds_base.specs.declared.number.NodeNo.{NodeNo}
 use Rattle.dds_brick_rows.specs.Refusal.{is_join}
-use Rattle.dds_core.proofs.Lists.{all-append, all-map}
 use Rattle.dds_law_own.proofs.Lists.{each-is}
 use Rattle.dds_law_own.proofs.Owned.{orderly}
 use Rattle.dds_letters.specs.declared.letter.Letter.{Letter}
 use Rattle.dds_letters.specs.declared.letter.Letter.TheVariants as letter
-use Rattle.dds_net.specs.Net.{Sizes, gains}
 use Rattle.dds_order_rows.specs.OwnOrder as order
-use Rattle.dds_orders.proofs.Counting as counting
-use Rattle.dds_orders.proofs.Counting.{not-none}
-use Rattle.dds_orders.proofs.Deeds.{Seat, Stage, is_of_orders, leaf_owed, nothing_owed, owed_at, part_owed}
+use Rattle.dds_orders.proofs.Deeds.{Seat}
 use Rattle.dds_orders.proofs.Leases.{same-is}
-use Rattle.dds_orders.proofs.Standing.{Stood, heard-stood}
-use Rattle.dds_orders.proofs.Turns.{Finds, Hears, copies_not, denies, gives, grants, grants_not, hears_other, installed_not, installs, installs_not}
-use Rattle.dds_orders.proofs.Turns.{is_installed, is_refused, learns, owed, refused_not, releases, sends_none, sends_part, source-is}
-use Rattle.dds_orders.proofs.Turns.{copies as copies_part}
+use Rattle.dds_orders.proofs.Standing.{Stood}
 use Rattle.dds_orders.specs.Law.{asked_of, said_of}
-use Rattle.dds_states.specs.Turn.{without}
 use Rattle.dds_states.specs.declared.brick_state.BrickState.{BrickState}
 use Rattle.dds_states.specs.declared.brick_state.OpenOrder.{OpenOrder}
-use Rattle.dds_states.specs.declared.brick_state.OrderPhase.{OrderPhase}
-use Rattle.dds_states.specs.declared.brick_state.OrderPhase.TheVariants.{Copying, Installing, Leasing}
-use Rattle.dds_order_talk.proofs.BrickDeeds.{Fits, IsCounted, OrderFits, Other, Owed, Side, all-gains, at-order, closing-over, none-fits, that-fits}
-use Rattle.dds_order_talk.proofs.HearsOthers.{kept-heard}
+use Rattle.dds_order_talk.proofs.BrickSide.{at-order}
 use Rattle.dds_order_talk.proofs.Holds.{name-self}
 use Rattle.dds_order_talk.proofs.Members.{Within}
-use Rattle.dds_order_talk.proofs.Moves.{Ends}
-use Rattle.dds_order_talk.proofs.Moves.{is_refused as refused_ends}
-use Rattle.dds_order_talk.proofs.BrickViews.{closing-ends}
-use Rattle.dds_order_talk.proofs.OrderViews.{by, by-it, by-other, doing, grant-moves, installed-moves, part-moves}
+use Rattle.dds_order_talk.proofs.OrderViews.{by, by-it, by-other}
 use Rattle.dds_order_talk.proofs.Projections.{asks-append, none-said}
 use Rattle.dds_order_talk.proofs.Sendings.{Once}
-use Rattle.dds_order_talk.proofs.Speakers.{HasAsk, IsUntaken, IsWaits, due-phase, drops-grant, drops-part, has_ask, is_due, is_waits, says-first, waits-phase}
-use Rattle.dds_order_talk.proofs.Speaking.{GoesOn, IsOver, Line, Speaks, doing_of, speaks-on, speaks-over}
-use Rattle.dds_order_talk.specs.Seen.{Doing, Own, ask_of, asks, is_its, is_named, one, phase_view, rests, say_of, says, took_part, view}
+use Rattle.dds_order_talk.proofs.Speakers.{HasAsk, due-phase, drops-grant, has_ask, is_due, is_waits, says-first, waits-phase}
+use Rattle.dds_order_talk.proofs.Speaking.{Line, Speaks}
+use Rattle.dds_order_talk.specs.Seen.{ask_of, asks, one, phase_view, rests, say_of, says, view}
 use Rattle.dds_order_talk.specs.Table as table
 use Rattle.dds_order_talk.specs.Table.{Ask, Say}
 use Rattle.dds_order_talk.specs.Table.AsksFor.{by_leaf, by_name}

@@ -1,4 +1,4 @@
-use Rattle.std.proofs.Common.{◌≡◌, ℕ, ◌++◌, ◌&&◌, inl, inr, Bool, true, false, not, Option, Some, None, List, [], ◌∷◌, refl, sym, ap, ◌∙◌, subst, append_assoc}
+use Rattle.std.proofs.Common.{◌≡◌, ℕ, ◌++◌, inl, inr, Bool, true, false, not, Option, Some, None, List, [], ◌∷◌, refl, sym, ap, ◌∙◌, subst, append_assoc}
 use Rattle.std.proofs.lemmas.Bool.{and_parts}
 use Rattle.std.proofs.lemmas.List.{append-nil}
 use Rattle.std.specs.List.{AllByRecursion}
@@ -27,11 +27,13 @@ use Rattle.dds_orders.proofs.Standing.{deed-both, deed-stands}
 use Rattle.dds_states.specs.Turn.{unknown, unknown_others, without}
 use Rattle.dds_states.specs.declared.brick_state.BrickState.{BrickState}
 use Rattle.dds_states.specs.declared.brick_state.OpenOrder.{OpenOrder}
-use Rattle.dds_states.specs.declared.brick_state.OrderPhase.TheVariants.{Copying, Installing, Leasing}
+use Rattle.dds_states.specs.declared.brick_state.OrderPhase.TheVariants.{Copying, Installing}
 use Rattle.dds_states.specs.declared.brick_state.Task.TheVariants.{Join, Split}
-use Rattle.dds_order_talk.proofs.BrickDeeds.{Fits, IsCounted, OrderFits, Other, Owed, Side, all-gains, at-order, at-stage, closing-over, copies-on}
-use Rattle.dds_order_talk.proofs.BrickDeeds.{fixes-on, leaves-speaks, loses-on, makes-on, more-on, none-fits, once-others, opens-asking, serving-over}
-use Rattle.dds_order_talk.proofs.BrickDeeds.{speaks-beside, that-fits}
+use Rattle.dds_order_talk.proofs.BrickSide.{Fits, IsCounted, OrderFits, Other, Owed, Side, all-gains, at-order, at-stage}
+use Rattle.dds_order_talk.proofs.BrickDeeds.{closing-over, copies-on}
+use Rattle.dds_order_talk.proofs.BrickSide.{leaves-speaks, none-fits, once-others}
+use Rattle.dds_order_talk.proofs.BrickDeeds.{fixes-on, loses-on, makes-on, more-on, opens-asking, serving-over}
+use Rattle.dds_order_talk.proofs.BrickSide.{speaks-beside, that-fits}
 use Rattle.dds_order_talk.proofs.Kept.{kept-deed}
 use Rattle.dds_order_talk.proofs.Members.{Asks, append-parts, in-without}
 use Rattle.dds_order_talk.proofs.Projections.{IsNotAsked}

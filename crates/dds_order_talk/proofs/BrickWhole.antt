@@ -1,9 +1,8 @@
-use Rattle.std.proofs.Common.{◌≡◌, ℕ, ◌==◌, ◌&&◌, ◌||◌, ◌++◌, Bool, true, false, Option, Some, None, List, [], ◌∷◌, refl, sym, ap, ◌∙◌, subst, append_assoc}
+use Rattle.std.proofs.Common.{◌≡◌, ℕ, ◌==◌, ◌&&◌, ◌||◌, ◌++◌, Bool, true, false, Some, List, [], ◌∷◌, refl, sym, ap, ◌∙◌, subst, append_assoc}
 use Rattle.std.proofs.lemmas.List.{append-nil}
-use Rattle.std.specs.Prelude.{if◌then◌else◌}
 use Rattle.dds_base.specs.BrickList.{has}
 use Rattle.dds_base.specs.Name.{Name, same_name}
-use Rattle.dds_base.specs.NodeSet.{has_node, with_node}
+use Rattle.dds_base.specs.NodeSet.{has_node}
 use Rattle.dds_base.specs.declared.leaf.Leaf.{Leaf}
 use Rattle.dds_base.specs.declared.number.NodeNo.{NodeNo}
 use Rattle.dds_core.proofs.Known.{has-with}
@@ -11,20 +10,19 @@ use Rattle.dds_letters.specs.declared.letter.Letter.{Letter}
 use Rattle.dds_letters.specs.declared.letter.Letter.TheVariants as letter
 use Rattle.dds_net.proofs.Projections.{gains-append}
 use Rattle.dds_net.specs.Net.{Sizes, gains}
-use Rattle.dds_order_rows.specs.OwnOrder as order
-use Rattle.dds_orders.proofs.Deeds.{Path, Seat, nothing_owed, over, path-of, seat, step}
+use Rattle.dds_orders.proofs.Deeds.{Path, Seat, nothing_owed, over, seat, step}
 use Rattle.dds_orders.proofs.Turns.{Hears, Turns, copies_not, denies, gives, grants, grants_not, hears_other, installed_not, installs, installs_not}
 use Rattle.dds_orders.proofs.Turns.{is_installed, is_refused, learns, owed, refused_not, releases, sends_none, sends_part}
 use Rattle.dds_orders.proofs.Turns.{copies as copies_part}
 use Rattle.dds_states.specs.Turn.{BrickTurn}
 use Rattle.dds_states.specs.declared.brick_state.BrickState.{BrickState}
 use Rattle.dds_states.specs.declared.brick_state.OpenOrder.{OpenOrder}
-use Rattle.dds_order_talk.proofs.BrickDeeds.{Other, Side, at-order}
+use Rattle.dds_order_talk.proofs.BrickSide.{Other, Side, at-order}
 use Rattle.dds_order_talk.proofs.BrickHeard.{found-says, own-line, side-hears}
 use Rattle.dds_order_talk.proofs.BrickHears.{Heard, IsUnlisted, Told}
 use Rattle.dds_order_talk.proofs.BrickTurns.{deed-known, none-gained, side-trip}
-use Rattle.dds_order_talk.proofs.Speakers.{IsWaits, due-phase, is_due, is_waits, says-first, waits-phase}
-use Rattle.dds_order_talk.proofs.Speaking.{Line, Speaks}
+use Rattle.dds_order_talk.proofs.Speakers.{due-phase, is_due, is_waits, says-first, waits-phase}
+use Rattle.dds_order_talk.proofs.Speaking.{Line}
 use Rattle.dds_order_talk.specs.Seen.{asks, one, phase_view, rests, say_of, says}
 use Rattle.dds_order_talk.specs.Table.{Say}
 use Rattle.dds_order_talk.specs.Table.Say.{granted, installed}

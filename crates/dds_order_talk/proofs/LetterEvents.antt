@@ -1,5 +1,5 @@
-use Rattle.std.proofs.Common.{◌≡◌, ℕ, ◌<◌, ◌≤◌, ◌==◌, ◌++◌, Bool, true, false, not, inl, inr, Option, Some, None, List, [], ◌∷◌, refl, sym, ap, ◌∙◌, subst}
-use Rattle.std.proofs.lemmas.Bool.{both_ways, cases_Bool, eq-eqb, ne_eqb}
+use Rattle.std.proofs.Common.{◌≡◌, ℕ, ◌==◌, ◌++◌, Bool, true, false, not, inl, inr, Some, List, [], ◌∷◌, refl, sym, ap, ◌∙◌, subst}
+use Rattle.std.proofs.lemmas.Bool.{both_ways, cases_Bool, eq-eqb}
 use Rattle.dds_base.specs.BrickList.{has}
 use Rattle.dds_base.specs.Name.{Name}
 use Rattle.dds_base.specs.NodeSet.{has_node}
@@ -11,27 +11,26 @@ use Rattle.dds_letters.specs.declared.letter.Letter.{Letter}
 use Rattle.dds_letters.specs.declared.letter.Letter.TheVariants as letter
 use Rattle.dds_locks.specs.Leases.{is_given}
 use Rattle.dds_net.proofs.Letters.{first-all}
-use Rattle.dds_net.proofs.PairTakes.{TakesPairs, pairs-takes}
+use Rattle.dds_net.proofs.PairTakes.{pairs-takes}
 use Rattle.dds_net.proofs.Puts.{Pairs}
 use Rattle.dds_net.proofs.Runs.{IsBuilt}
 use Rattle.dds_net.specs.Event.{IsFirst, Takes, takes}
 use Rattle.dds_net.specs.Net.{Net, Node, nowhere, a_brick, a_library, Sizes, changed, gains, is_in}
-use Rattle.dds_orders.proofs.Deeds.{Seat, nothing_owed, seat}
+use Rattle.dds_orders.proofs.Deeds.{nothing_owed, seat}
 use Rattle.dds_orders.proofs.Numbered as numbered
 use Rattle.dds_orders.proofs.Numbered.{takes-stopped}
 use Rattle.dds_orders.proofs.Turns.{Turns}
-use Rattle.dds_orders.specs.Law.{asked_of, said_of}
+use Rattle.dds_orders.specs.Law.{said_of}
 use Rattle.dds_states.specs.declared.brick_state.BrickState.{BrickState}
 use Rattle.dds_states.specs.declared.brick_state.OpenOrder.{OpenOrder}
-use Rattle.dds_order_talk.proofs.BrickDeeds.{Other, Side}
+use Rattle.dds_order_talk.proofs.BrickSide.{Other, Side}
 use Rattle.dds_order_talk.proofs.BrickHears.{Heard, IsUnlisted, Told, of_another, of_it}
-use Rattle.dds_order_talk.proofs.BrickTurns.{none-gained, side-trip}
+use Rattle.dds_order_talk.proofs.BrickTurns.{side-trip}
 use Rattle.dds_order_talk.proofs.BrickWhole.{grants-waited, installed-waited, side-turn, turn-known}
 use Rattle.dds_order_talk.proofs.Kept.{kept-path}
 use Rattle.dds_order_talk.proofs.Letters as within
 use Rattle.dds_order_talk.proofs.Letters.{Asked}
 use Rattle.dds_order_talk.proofs.MemberHears.{IsRight, sent}
-use Rattle.dds_order_talk.proofs.MemberSide.{With}
 use Rattle.dds_order_talk.proofs.MemberTurns.{MayHear, Owner, member-answers, member-turn}
 use Rattle.dds_order_talk.proofs.Members.{Within}
 use Rattle.dds_order_talk.proofs.Projections.{says-append}

@@ -14,6 +14,7 @@ pub mod OrderBegins
 pub mod Speaking
 pub mod Sendings
 pub mod BrickViews
+pub mod BrickSide
 pub mod BrickDeeds
 pub mod BrickTurns
 pub mod Speakers
@@ -24,4 +25,5 @@ pub mod MemberTurns
 pub mod Talking
 pub mod LetterEvents
 pub mod RightLetters
+pub mod Givers
 pub mod TalkKeeps

@@ -1,9 +1,8 @@
-use Rattle.std.proofs.Common.{◌≡◌, ℕ, ◌<◌, ◌≤◌, ◌==◌, ◌&&◌, ◌||◌, ◌⊎◌, ◌++◌, Bool, true, false, inl, inr, Option, Some, None, List, [], ◌∷◌, refl, sym, ap, ◌∙◌, subst}
-use Rattle.std.proofs.Common.{append_assoc}
+use Rattle.std.proofs.Common.{◌≡◌, ℕ, ◌<◌, ◌&&◌, ◌||◌, ◌⊎◌, ◌++◌, Bool, true, false, inl, inr, Option, Some, None, List, [], ◌∷◌, refl, sym, ap, ◌∙◌, subst}
 use Rattle.std.proofs.lemmas.Bool.{both_ways, eq-eqb, ne_eqb}
 use Rattle.std.proofs.lemmas.List.{append-nil}
 use Rattle.std.specs.List.{AllByRecursion}
-use Rattle.std.specs.Prelude.{map, if◌then◌else◌}
+use Rattle.std.specs.Prelude.{if◌then◌else◌}
 use Rattle.dds_base.specs.Name.{Name, same_name}
 use Rattle.dds_base.specs.declared.number.NodeNo.{NodeNo}
 use Rattle.dds_core.proofs.Lists.{all-append, all-map}
@@ -11,10 +10,9 @@ use Rattle.dds_letters.specs.declared.letter.Letter.{Letter}
 use Rattle.dds_letters.specs.declared.letter.Letter.TheVariants as letter
 use Rattle.dds_locks.specs.Leases.{is_given}
 use Rattle.dds_net.specs.Net.{Sizes, gains, is_in, landing, lands, when_in}
-use Rattle.dds_orders.proofs.Counting.{not-none}
 use Rattle.dds_orders.proofs.Deeds as deed
 use Rattle.dds_orders.proofs.Deeds.{Seat, seat}
-use Rattle.dds_orders.proofs.Leased.{IsInstall, LeafStays, deed-given, heard-stays}
+use Rattle.dds_orders.proofs.Leased.{LeafStays, deed-given, heard-stays}
 use Rattle.dds_orders.proofs.Leases.{given-dropped, given-more, given-other, other-holder}
 use Rattle.dds_orders.proofs.Standing.{Stood, heard-stood, path-stood}
 use Rattle.dds_orders.proofs.Turns.{Hears, Turns, copies_not, denies, gives, grants, grants_not, hears_other, installed_not, installs, installs_not}
@@ -31,7 +29,7 @@ use Rattle.dds_order_talk.proofs.MemberSide.{With, member-beside, member-path, n
 use Rattle.dds_order_talk.proofs.Members.{Asks, Sent, Within}
 use Rattle.dds_order_talk.proofs.Projections.{says-append}
 use Rattle.dds_order_talk.proofs.Sendings.{lands-same}
-use Rattle.dds_order_talk.specs.Seen.{New, Own, ask_of, say_of, says, wanted_name}
+use Rattle.dds_order_talk.specs.Seen.{New, Own, ask_of, say_of, says}
 use Rattle.dds_order_talk.specs.Table.{Ask, Say, Talks, View}
 
 -- A member's whole turn, at a letter of the order's brick or of another node, and its own orders.

@@ -1,4 +1,4 @@
-use Rattle.std.proofs.Common.{◌≡◌, ℕ, ◌==◌, ◌&&◌, ◌++◌, Bool, true, false, not, Option, Some, None, List, [], ◌∷◌, refl, sym, ap, ◌∙◌, subst}
+use Rattle.std.proofs.Common.{◌≡◌, ℕ, ◌==◌, ◌&&◌, Bool, true, false, not, Option, Some, None, List, [], ◌∷◌, refl, ap, ◌∙◌, subst}
 use Rattle.std.proofs.lemmas.Bool.{and_parts, both_ways, eqb-true}
 use Rattle.std.specs.FinMap.{get}
 use Rattle.dds_base.specs.Name.{Name, same_name}
@@ -14,14 +14,15 @@ use Rattle.dds_letters.specs.declared.refusal.Wanted.{Wanted}
 use Rattle.dds_letters.specs.declared.refusal.Wanted.TheVariants as wanted
 use Rattle.dds_locks.specs.Leases.{is_given}
 use Rattle.dds_net.proofs.Letters.{first-all}
-use Rattle.dds_net.specs.Event.{IsFirst, Takes}
+use Rattle.dds_net.specs.Event.{Takes}
 use Rattle.dds_net.specs.Net.{Net, Node, a_brick, Sizes}
 use Rattle.dds_orders.proofs.Deeds.{Seat, seat}
 use Rattle.dds_orders.proofs.Leases.{same-is}
 use Rattle.dds_orders.proofs.Standing.{Stood}
 use Rattle.dds_states.specs.declared.brick_state.BrickState.{BrickState}
 use Rattle.dds_states.specs.declared.brick_state.OpenOrder.{OpenOrder}
-use Rattle.dds_order_talk.proofs.BrickDeeds.{IsCounted, lease-of}
+use Rattle.dds_order_talk.proofs.BrickSide.{IsCounted}
+use Rattle.dds_order_talk.proofs.BrickDeeds.{lease-of}
 use Rattle.dds_order_talk.proofs.MemberHears.{IsRight}
 use Rattle.dds_order_talk.proofs.Moves.{Stays}
 use Rattle.dds_order_talk.proofs.Talking as talking

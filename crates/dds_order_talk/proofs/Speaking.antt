@@ -1,4 +1,4 @@
-use Rattle.std.proofs.Common.{◌≡◌, ℕ, ◌<◌, ◌==◌, ◌&&◌, ◌||◌, ◌++◌, Bool, true, false, not, Option, Some, None, List, [], ◌∷◌, refl, sym, ap, ◌∙◌, subst}
+use Rattle.std.proofs.Common.{◌≡◌, ℕ, ◌++◌, Bool, true, false, not, Option, Some, None, List, [], ◌∷◌, refl, sym, ap, ◌∙◌, subst}
 use Rattle.std.proofs.Common.{append_assoc}
 use Rattle.std.proofs.lemmas.List.{append-nil}
 use Rattle.std.specs.List.{AllByRecursion}
@@ -6,12 +6,12 @@ use Rattle.std.specs.Prelude.{map, if◌then◌else◌}
 use Rattle.dds_base.specs.Name.{Name, same_name}
 use Rattle.dds_letters.specs.declared.letter.Letter.{Letter}
 use Rattle.dds_locks.specs.Leases.{is_given}
-use Rattle.dds_orders.proofs.Deeds.{Seat, Stage, leaf_owed, nothing_owed, part_owed, told_order}
+use Rattle.dds_orders.proofs.Deeds.{Stage, leaf_owed, nothing_owed, part_owed, told_order}
 use Rattle.dds_orders.proofs.Leases.{same-is}
 use Rattle.dds_states.specs.declared.brick_state.BrickState.{BrickState}
 use Rattle.dds_states.specs.declared.brick_state.OpenOrder.{OpenOrder}
 use Rattle.dds_order_talk.proofs.Holds.{name-self}
-use Rattle.dds_order_talk.proofs.Moves.{Ends, Takes, Tells, brick-ends, brick-plain, brick-silent, brick-takes, brick-unasked, ended, releases_more}
+use Rattle.dds_order_talk.proofs.Moves.{Ends, Takes, brick-ends, brick-plain, brick-silent, brick-takes, brick-unasked, ended, releases_more}
 use Rattle.dds_order_talk.proofs.Projections.{IsLeaseOf, asks-append, asks-same, ended-asks, idle-asks, none-said}
 use Rattle.dds_order_talk.specs.Seen.{Doing, New, Own, asks, phase_view, rests, says, took_first, took_part, view}
 use Rattle.dds_order_talk.specs.Table.{Ask, Say, Talks, View}

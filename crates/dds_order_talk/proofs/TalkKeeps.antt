@@ -1,7 +1,6 @@
-use Rattle.std.proofs.Common.{◌≡◌, ℕ, ◌<◌, ◌≤◌, ◌==◌, ◌++◌, Bool, true, false, not, inl, inr, Option, Some, None, List, [], ◌∷◌, refl, sym, ap, ◌∙◌, subst, arith}
+use Rattle.std.proofs.Common.{◌≡◌, ℕ, ◌<◌, ◌≤◌, ◌==◌, ◌++◌, Bool, true, false, not, inl, inr, Option, List, [], ◌∷◌, refl, sym, ap, ◌∙◌, subst, arith}
 use Rattle.std.proofs.lemmas.Bool.{cases_Bool, ne_eqb}
 use Rattle.std.proofs.lemmas.List.{append-nil}
-use Rattle.std.specs.List.{AllByRecursion}
 use Rattle.dds_base.specs.Name.{Name}
 use Rattle.dds_base.specs.NodeSet.{has_node}
 use Rattle.dds_base.specs.declared.number.NodeNo.{NodeNo}
@@ -20,7 +19,7 @@ use Rattle.dds_net.proofs.Puts.{Pairs, pairs-changed}
 use Rattle.dds_net.proofs.Runs.{IsBuilt}
 use Rattle.dds_net.specs.Event.{Event, nothing, unheard, unasked, brick_takes, brick_told, brick_stops, library_takes, library_asked, library_stops}
 use Rattle.dds_net.specs.Event.{Fits, IsDeaf, IsFirst, Stops, asked_turn, does, moved, notice_to, stops, takes}
-use Rattle.dds_net.specs.Net.{Net, Node, nowhere, a_brick, a_library, Sizes, changed, gains, is_in, when_in}
+use Rattle.dds_net.specs.Net.{Net, Node, nowhere, a_brick, a_library, Sizes, changed, gains, when_in}
 use Rattle.dds_orders.proofs.Deeds.{nothing_owed, seat, told_order}
 use Rattle.dds_orders.proofs.Numbered as numbered
 use Rattle.dds_orders.proofs.Numbered.{told-stopped}
@@ -28,7 +27,7 @@ use Rattle.dds_orders.proofs.Turns.{Turns, letter-turns, order-goes}
 use Rattle.dds_states.specs.declared.brick_state.BrickState.{BrickState}
 use Rattle.dds_states.specs.declared.brick_state.OpenOrder.{OpenOrder}
 use Rattle.dds_states.specs.declared.library_state.LibraryState.{LibraryState}
-use Rattle.dds_order_talk.proofs.BrickDeeds.{IsCounted, Other, Side}
+use Rattle.dds_order_talk.proofs.BrickSide.{IsCounted, Other, Side}
 use Rattle.dds_order_talk.proofs.BrickTurns.{none-gained, side-trip}
 use Rattle.dds_order_talk.proofs.BrickWhole.{path-known}
 use Rattle.dds_order_talk.proofs.Kept.{kept-path}

@@ -1,37 +1,30 @@
-use Rattle.std.proofs.Common.{◌≡◌, ℕ, ◌<◌, ◌≤◌, ◌==◌, ◌++◌, Bool, true, false, not, Option, Some, None, List, [], ◌∷◌, refl, sym, ap, ◌∙◌, subst}
-use Rattle.std.proofs.lemmas.Bool.{both_ways, eq-eqb, eqb-false, ne_eqb}
+use Rattle.std.proofs.Common.{◌≡◌, ℕ, ◌<◌, ◌==◌, true, false, not, Some, None, List, sym, subst}
+use Rattle.std.proofs.lemmas.Bool.{ne_eqb}
 use Rattle.std.specs.FinMap.{get}
 use Rattle.std.specs.List.{AllByRecursion}
 use Rattle.dds_base.specs.BrickList.{has}
 use Rattle.dds_base.specs.Name.{Name}
 use Rattle.dds_base.specs.NodeSet.{has_node}
 use Rattle.dds_base.specs.declared.leaf.Leaf.{Leaf}
-use Rattle.dds_base.specs.declared.number.NodeNo.{NodeNo}
 use Rattle.dds_core.proofs.Lists.{all-map}
-use Rattle.dds_core.specs.Brick.{live_brick_turn}
-use Rattle.dds_law_own.proofs.LetterWays.{IsOfAnother}
-use Rattle.dds_law_own.proofs.Parted.{IsBoth}
 use Rattle.dds_law_own.proofs.Keeps as law_own
 use Rattle.dds_letters.specs.declared.letter.Letter.{Letter}
 use Rattle.dds_letters.specs.declared.letter.Letter.TheVariants as letter
 use Rattle.dds_locks.specs.Leases.{is_given}
-use Rattle.dds_net.proofs.Letters.{first-all}
-use Rattle.dds_net.specs.Event.{IsFirst, Takes}
-use Rattle.dds_net.specs.Net.{Net, Node, nowhere, a_brick, a_library, Sizes, gains, is_in}
-use Rattle.dds_orders.proofs.Deeds.{Seat, nothing_owed, over, path-of, seat}
+use Rattle.dds_net.specs.Event.{IsFirst}
+use Rattle.dds_net.specs.Net.{Net, Node, nowhere, a_brick, a_library, Sizes}
+use Rattle.dds_orders.proofs.Deeds.{nothing_owed, seat}
 use Rattle.dds_orders.proofs.Numbered as numbered
-use Rattle.dds_orders.proofs.Numbers.{Counted}
 use Rattle.dds_orders.proofs.Standing.{Standing, Stood}
 use Rattle.dds_orders.proofs.Covered.{Covering}
 use Rattle.dds_orders.proofs.Stood.{AreStood, NodeStands}
-use Rattle.dds_orders.proofs.Turns.{Turns}
-use Rattle.dds_orders.specs.Law.{asked_of, said_of}
+use Rattle.dds_orders.specs.Law.{said_of}
 use Rattle.dds_states.specs.declared.brick_state.BrickState.{BrickState}
 use Rattle.dds_states.specs.declared.brick_state.OpenOrder.{OpenOrder}
-use Rattle.dds_order_talk.proofs.BrickDeeds.{Fits, IsCounted, Other, Side}
+use Rattle.dds_order_talk.proofs.BrickSide.{Fits, IsCounted, Side}
 use Rattle.dds_order_talk.proofs.Letters as within
 use Rattle.dds_order_talk.proofs.Letters.{AreWithin, Asked}
-use Rattle.dds_order_talk.proofs.Members.{Asks, Within}
+use Rattle.dds_order_talk.proofs.Members.{Asks}
 use Rattle.dds_order_talk.proofs.Sendings.{Once}
 use Rattle.dds_order_talk.proofs.Speaking.{Speaks}
 use Rattle.dds_order_talk.specs.Seen.{BrickTalk, New, Own, asks, rests, says, view}
