@@ -185,7 +185,8 @@ makers-once x o made nodes may h =
     let s = may.may.state in
     let leaf = may.may.leaf in
     subst Once (sym may.nodes_are)
-    (pairs-filter _ _ (order.parting s o leaf) (pairs-filter _ _ (live leaf.list (has_node s.known)) (pairs-live (λ m n. m ≡ n → ⊥) leaf.list (has_node s.known) h)))
+    (pairs-filter _ _ (order.parting s o leaf) (pairs-filter _ _ (live leaf.list (has_node s.known))
+    (pairs-live (λ m n. m ≡ n → ⊥) leaf.list (has_node s.known) h)))
 
 pub makes-on : (z : Sizes) (j m : ℕ) (a : Stage) (x : Seat) (o : OpenOrder) (made : Leaf) (nodes : List NodeNo) (back : List Letter)
     → Other z j m x.own.known → Asks j x → x.own.order ≡ Some o → MayBegin x o made nodes → OrderFits o → MakesAt o a

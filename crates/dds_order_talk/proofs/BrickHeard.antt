@@ -227,7 +227,7 @@ heard-speaks z j m from t l x _ ls out back rest (hears_other _ e) w h f u g =
     (all-gains (λ k. asked_of k ≡ None) z m ls tt) h.speaks
 
 -- what is wanted of the order afterwards
-heard-fits : (from : ℕ) (l : Letter) (x y : Seat) (ls : List (NodeNo × Letter)) → Hears from x l ls y → Fits x.own.order → Fits y.own.order
+pub heard-fits : (from : ℕ) (l : Letter) (x y : Seat) (ls : List (NodeNo × Letter)) → Hears from x l ls y → Fits x.own.order → Fits y.own.order
 heard-fits from l x y ls (gives number what leaf there free stamp unknown) f = f
 heard-fits from l x _ ls (denies number what why) f = f
 heard-fits from l x y ls (releases number name) f = f
@@ -257,25 +257,25 @@ granted-owed : (q : Option Leaf) (from : NodeNo) (leaf : Leaf) (y : Seat) (out b
 granted-owed None from leaf y out back h = h
 granted-owed (Some fixed) from leaf y out back h = tt
 
-heard-owed : (j from : ℕ) (l : Letter) (x y z : Seat) (ls : List (NodeNo × Letter)) (out back : List Letter) (d : Hears from x l ls y) → Told j from l x
-    → Owed (owed d) z out back
-heard-owed j from l x y z ls out back (gives number what leaf there free stamp unknown) f = tt
-heard-owed j from l x _ z ls out back (denies number what why) f = tt
-heard-owed j from l x y z ls out back (releases number name) f = tt
-heard-owed j from l x _ z ls out back (sends_part number name place last pairs given there) f = tt
-heard-owed j from l x _ z ls out back (sends_none number name place e) f = tt
-heard-owed j from l x y z ls out back (installs number leaf mine may) f = tt
-heard-owed j from l x _ z ls out back (installs_not number leaf may) f = tt
-heard-owed j from l x y z ls out back (grants number leaf o finds) f = granted-owed o.leaf from leaf z out back (f.lists number leaf refl)
-heard-owed j from l x _ z ls out back (grants_not number leaf e) f = tt
-heard-owed j from l x y z ls out back (is_refused number why o finds) f = tt
-heard-owed j from l x _ z ls out back (refused_not number why e) f = tt
-heard-owed j from l x y z ls out back (copies_part number last pairs o finds) f = tt
-heard-owed j from l x _ z ls out back (copies_not number last pairs e) f = tt
-heard-owed j from l x y z ls out back (is_installed number name o finds) f = tt
-heard-owed j from l x _ z ls out back (installed_not number name e) f = tt
-heard-owed j from l x y z ls out back (learns below other) f = tt
-heard-owed j from l x _ z ls out back (hears_other _ e) f = tt
+pub heard-owed : (from : ℕ) (l : Letter) (x y z : Seat) (ls : List (NodeNo × Letter)) (out back : List Letter) (d : Hears from x l ls y)
+    → ((number : ℕ) (leaf : Leaf) → l ≡ letter.Granted number leaf → Once leaf.list × (has leaf.list from ≡ true)) → Owed (owed d) z out back
+heard-owed from l x y z ls out back (gives number what leaf there free stamp unknown) f = tt
+heard-owed from l x _ z ls out back (denies number what why) f = tt
+heard-owed from l x y z ls out back (releases number name) f = tt
+heard-owed from l x _ z ls out back (sends_part number name place last pairs given there) f = tt
+heard-owed from l x _ z ls out back (sends_none number name place e) f = tt
+heard-owed from l x y z ls out back (installs number leaf mine may) f = tt
+heard-owed from l x _ z ls out back (installs_not number leaf may) f = tt
+heard-owed from l x y z ls out back (grants number leaf o finds) f = granted-owed o.leaf from leaf z out back (f number leaf refl)
+heard-owed from l x _ z ls out back (grants_not number leaf e) f = tt
+heard-owed from l x y z ls out back (is_refused number why o finds) f = tt
+heard-owed from l x _ z ls out back (refused_not number why e) f = tt
+heard-owed from l x y z ls out back (copies_part number last pairs o finds) f = tt
+heard-owed from l x _ z ls out back (copies_not number last pairs e) f = tt
+heard-owed from l x y z ls out back (is_installed number name o finds) f = tt
+heard-owed from l x _ z ls out back (installed_not number name e) f = tt
+heard-owed from l x y z ls out back (learns below other) f = tt
+heard-owed from l x _ z ls out back (hears_other _ e) f = tt
 
 answer-counted : (j from : ℕ) (l : Letter) (y : Seat) (p : NodeNo × Letter) → counting.Answered j from l y p → IsCounted y p.1
 answer-counted j from l y p (counting.own s) n e = (s.asked n e).0
@@ -295,5 +295,5 @@ side-hears z j m from t l x y ls out back rest d w h f u g =
           (all-map (IsCounted x) (IsCounted y) out (λ i c n e. k.later n i (c n e)) h.counted)
           (all-gains (IsCounted y) z m ls (all-map _ _ ls (λ p c. answer-counted j from l y p c) k.sent));
       fits = heard-fits from l x y ls d h.fits;
-      owed = heard-owed j from l x y y ls (out ++ gains z ls m) rest d f;
+      owed = heard-owed from l x y y ls (out ++ gains z ls m) rest d f.lists;
     }

@@ -137,8 +137,9 @@ pub untaken : (j m : ℕ) (t : BrickState) (o : OpenOrder) (number : ℕ) (l : L
     → Keep j m t (Some o) out (l ∷ rest) rest
 untaken j m t o number l a out rest s f h n = elim (cases_Bool (o.number == number)) [
   | inl e ↦ untaken-at j m t o number l a out rest n (same_name o.name n) refl (s n ∙ said-at (o.number == number) (same_name o.name n) a e) (f e) (h n)
-  | inr e ↦ subst (λ b. Line m t n (view rests (Some o) n m) (asks (Some o) n out) j (b ++ says (Some o) n rest)) (s n ∙ its-said o number n a (o.number == number) refl e)
-      (h n)
+  | inr e ↦
+      subst (λ b. Line m t n (view rests (Some o) n m) (asks (Some o) n out) j (b ++ says (Some o) n rest))
+      (s n ∙ its-said o number n a (o.number == number) refl e) (h n)
 ]
 
 -- a letter to the order that is not taken

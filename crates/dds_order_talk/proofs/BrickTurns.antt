@@ -19,7 +19,8 @@ use Rattle.dds_net.specs.Net.{Sizes, gains, is_in, when_in}
 use Rattle.dds_order_rows.specs.OwnOrder as order
 use Rattle.dds_orders.proofs.Counting as counting
 use Rattle.dds_orders.proofs.Counting.{not-none}
-use Rattle.dds_orders.proofs.Deeds.{Deed, Leaves, MayWiden, Seat, Stage, Staged, Trip, arrives, asks_more, closes, copies, does_next, drops, fixes, is_of_orders, joins}
+use Rattle.dds_orders.proofs.Deeds.{Deed, Leaves, MayWiden, Seat, Stage, Staged, Trip, arrives, asks_more, closes, copies, does_next, drops, fixes}
+use Rattle.dds_orders.proofs.Deeds.{is_of_orders, joins}
 use Rattle.dds_orders.proofs.Deeds.{leaf_owed, loses, makes, new_order, nothing_owed, part_owed, pends, says, serves, split_asked, splits, stays, takes}
 use Rattle.dds_orders.proofs.Deeds.{refuses, copies_none, splits_none, told_order, widened}
 use Rattle.dds_orders.proofs.Numbers.{others-asked}
@@ -113,7 +114,7 @@ wide-fits j x o from leaf asks there may once lists =
       lists = λ l e n g. subst (λ (k : Leaf). has k.list n ≡ true) (the-leaf leaf l e) (all n g);
     }
 
-deed-fits : (j : ℕ) (a b : Stage) (x y : Seat) (ls : List (NodeNo × Letter)) (out back : List Letter) (d : Deed x ls y) → Staged a b d → Asks j x
+pub deed-fits : (j : ℕ) (a b : Stage) (x y : Seat) (ls : List (NodeNo × Letter)) (out back : List Letter) (d : Deed x ls y) → Staged a b d → Asks j x
     → Fits x.own.order → Owed a x out back → Fits y.own.order
 deed-fits j a b x _ ls out back (says _ others) q asks f w = f
 deed-fits j a b x y ls out back (takes mine leaf may) q asks f w = f
@@ -168,7 +169,7 @@ leaves-owed a b x out more back (splits_none o there none t f) h w = subst (λ s
 nothing-left : (b : Stage) (y : Seat) (out back : List Letter) → b ≡ nothing_owed → Owed b y out back
 nothing-left b y out back e = subst (λ s. Owed s y out back) (sym e) tt
 
-deed-owed : (a b : Stage) (x y : Seat) (ls : List (NodeNo × Letter)) (out more back : List Letter) (d : Deed x ls y) → Staged a b d
+pub deed-owed : (a b : Stage) (x y : Seat) (ls : List (NodeNo × Letter)) (out more back : List Letter) (d : Deed x ls y) → Staged a b d
     → (AllByRecursion (λ (p : NodeNo × Letter). is_of_orders p.1 ≡ false) ls → AllByRecursion (λ l. is_of_orders l ≡ false) more)
     → Owed a x out back → Owed b y (out ++ more) back
 deed-owed a b x _ ls out more back (says _ others) q h w = leaves-owed a b x out more back q (h others) w

@@ -26,4 +26,5 @@ pub mod Talking
 pub mod LetterEvents
 pub mod RightLetters
 pub mod Givers
+pub mod Fitting
 pub mod TalkKeeps

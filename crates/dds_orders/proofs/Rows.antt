@@ -44,7 +44,8 @@ voted : (s u : BrickState) (from : NodeNo) (p : Pending) (name : Name) (stamp : 
     → update_denial s p.op name stamp ≡ d → Goes (seat s) (calls.voted u from p d)
 voted s u from p name stamp None is e =
     goes-to (record (seat s) { own = record (own s) { pending = s.locks.pending ++ p ∷ [] } }) _
-    (ap (λ (x : Seat). record x { own = record x.own { pending = x.own.pending ++ p ∷ [] } }) is) (refl, tt) (one (pends p (may-pend s p name stamp e)) (refl, refl))
+    (ap (λ (x : Seat). record x { own = record x.own { pending = x.own.pending ++ p ∷ [] } }) is) (refl, tt)
+    (one (pends p (may-pend s p name stamp e)) (refl, refl))
 voted s u from p name stamp (Some why) is e = plain _ is (refl, tt)
 
 pub prepare_row : (s : BrickState) (from : NodeNo) (p : Pending) (below : ℕ) (name : Name) (stamp : StampOf)

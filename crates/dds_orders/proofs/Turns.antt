@@ -205,7 +205,8 @@ lease_row s from number (wanted.Name name) u = answering s from number (wanted.N
 lease_row s from number (wanted.Leaf leaf) u =
     let t = takes.take s leaf in
     let known : has_node t.known from ≡ false = ap (λ k. has_node k from) (take-known s leaf (own_leaf s.leaves leaf.name)) ∙ u in
-    taken-then _ (rows.take s leaf) (rows.take-order s leaf) (answering t from number (wanted.Leaf leaf) (lease_refusal t leaf.name (Some leaf.stamp)) refl known)
+    taken-then _ (rows.take s leaf) (rows.take-order s leaf) (answering t from number (wanted.Leaf leaf)
+    (lease_refusal t leaf.name (Some leaf.stamp)) refl known)
 
 copy_ask_row : (s : BrickState) (from : NodeNo) (number : ℕ) (name : Name) (place : Option ℕ)
     → Turns from (seat s) (letter.CopyAsk number name place) (orders.copy_ask_row s from number name place)
