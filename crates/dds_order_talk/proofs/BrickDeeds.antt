@@ -44,7 +44,6 @@ use Rattle.dds_order_talk.specs.Seen.{says as said}
 use Rattle.dds_order_talk.specs.Table.{AsksFor}
 use Rattle.dds_order_talk.specs.Table.Ask.{copy, install, lease}
 use Rattle.dds_order_talk.specs.Table.View.{Off}
-
 use Rattle.dds_order_talk.proofs.BrickSide.{IsCounted, OrderFits, Other, leasing-is, not-known, once-others, source-other}
 use Rattle.dds_order_talk.proofs.BrickSide.{all-gains}
 

@@ -206,11 +206,11 @@ drops-untaken j m t x o number leaf out rest h there untakes apart k =
 -- a refusal, and a word that a leaf is installed, are always taken
 pub refusal-taken : (j m : ℕ) (t : BrickState) (o : OpenOrder) (out rest : List Letter) → order.is_leasing o.phase ≡ false → Drops j m t o refused out rest
 refusal-taken j m t o out rest e k = elim (says-first k) [
-  is_waits what v ↦ absurd (both_ways (order.is_leasing o.phase) e (ap order.is_leasing (waits-phase o m o.phase what v).phase))
+  | is_waits what v ↦ absurd (both_ways (order.is_leasing o.phase) e (ap order.is_leasing (waits-phase o m o.phase what v).phase))
 ]
 
 pub installed-taken : (j m : ℕ) (t : BrickState) (o : OpenOrder) (out rest : List Letter) → order.is_installing o.phase ≡ false
     → Drops j m t o installed out rest
 installed-taken j m t o out rest e k = elim (says-first k) [
-  is_due leaf made v ↦ absurd (both_ways (order.is_installing o.phase) e (due-phase o m o.phase leaf made v).0)
+  | is_due leaf made v ↦ absurd (both_ways (order.is_installing o.phase) e (due-phase o m o.phase leaf made v).0)
 ]

@@ -105,12 +105,12 @@ pub grants-waited : (j m : ℕ) (t : BrickState) (x : Seat) (o : OpenOrder) (num
     → Side j m t nothing_owed x out (letter.Granted number leaf ∷ rest) → x.own.order ≡ Some o → o.number ≡ number → has o.waiting m ≡ true
 grants-waited j m t x o number leaf out rest h there same =
     elim (says-first (line-said j m t x o number (letter.Granted number leaf) (granted leaf) out rest h there same refl)) [
-      is_waits what e ↦ (waits-phase o m o.phase what e).waits
+      | is_waits what e ↦ (waits-phase o m o.phase what e).waits
     ]
 
 pub installed-waited : (j m : ℕ) (t : BrickState) (x : Seat) (o : OpenOrder) (number : ℕ) (name : Name) (out rest : List Letter)
     → Side j m t nothing_owed x out (letter.Installed number name ∷ rest) → x.own.order ≡ Some o → o.number ≡ number → has o.waiting m ≡ true
 installed-waited j m t x o number name out rest h there same =
     elim (says-first (line-said j m t x o number (letter.Installed number name) installed out rest h there same refl)) [
-      is_due leaf made e ↦ (due-phase o m o.phase leaf made e).1
+      | is_due leaf made e ↦ (due-phase o m o.phase leaf made e).1
     ]

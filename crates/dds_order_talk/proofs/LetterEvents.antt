@@ -92,7 +92,7 @@ grant-waited : (z : Sizes) (n : Net) (at from : NodeNo) (l : Letter) (s : BrickS
 grant-waited z n at from l s c number leaf o e there same =
     let said : said_of l ≡ Some number = ap said_of e in
     elim (c.wanted.senders at from number l c.takes.letter said) [
-      is_brick t is ↦
+      | is_brick t is ↦
           grants-waited at from t c.turn.first o number leaf (n.channel at from ++ gains z [] from) c.takes.letter.others
           (subst (λ k. Side at from t nothing_owed c.turn.first (n.channel at from ++ gains z [] from) (k ∷ c.takes.letter.others)) e
           (sender-side z n at from l s t c is ((first-ok z n at from l s c).said number said).0)) there same
@@ -103,7 +103,7 @@ install-waited : (z : Sizes) (n : Net) (at from : NodeNo) (l : Letter) (s : Bric
 install-waited z n at from l s c number name o e there same =
     let said : said_of l ≡ Some number = ap said_of e in
     elim (c.wanted.senders at from number l c.takes.letter said) [
-      is_brick t is ↦
+      | is_brick t is ↦
           installed-waited at from t c.turn.first o number name (n.channel at from ++ gains z [] from) c.takes.letter.others
           (subst (λ k. Side at from t nothing_owed c.turn.first (n.channel at from ++ gains z [] from) (k ∷ c.takes.letter.others)) e
           (sender-side z n at from l s t c is ((first-ok z n at from l s c).said number said).0)) there same

@@ -27,4 +27,5 @@ pub mod LetterEvents
 pub mod RightLetters
 pub mod Givers
 pub mod Fitting
+pub mod InstallsApart
 pub mod TalkKeeps
