@@ -53,7 +53,7 @@ one-both true true s e f = refl
 one-both true false s e f = cc
 one-both false b s e f = cc
 
-one-none : (a b : Bool) (s : Say) → b ≡ false → one (a && b) s ≡ []
+pub one-none : (a b : Bool) (s : Say) → b ≡ false → one (a && b) s ≡ []
 one-none true true s e = cc
 one-none true false s e = refl
 one-none false b s e = refl

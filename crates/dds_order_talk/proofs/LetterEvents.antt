@@ -41,10 +41,10 @@ use Rattle.dds_order_talk.specs.Table.{Talks}
 -- A live brick takes a letter: what every two bricks say of their orders stays in the lines of the table.
 
 -- what is wanted of a letter to a member, besides what stands of the world: of a live brick's order it is the right one
-abbrev pub AreRight : Net → NodeNo → Letter → BrickState → Type 0
-AreRight n from l s =
+abbrev pub AreRight : Net → NodeNo → NodeNo → Letter → BrickState → Type 0
+AreRight n at from l s =
     (sj : BrickState) (x : Name) (u : Turns from (seat s) l (live_brick_turn s from l)) → n.node from ≡ a_brick sj → sj.stopped ≡ false
-    → IsRight from x sj.order (not sj.stopped) l u.first u.next (says sj.order x (sent u.answers))
+    → has_node sj.known at ≡ false → IsRight from x sj.order (not sj.stopped) l u.first u.next (says sj.order x (sent u.answers))
 
 -- one letter at a live brick, with its turn
 pub record Comes (z : Sizes) (n : Net) (at from : NodeNo) (l : Letter) (s : BrickState) : Type 0 where
@@ -53,7 +53,7 @@ pub record Comes (z : Sizes) (n : Net) (at from : NodeNo) (l : Letter) (s : Bric
   pub takes : Takes z n at from l (a_brick s)
   pub another : IsOfAnother s from l
   pub turn : Turns from (seat s) l (live_brick_turn s from l)
-  pub right : AreRight n from l s
+  pub right : AreRight n at from l s
   pub talks : Pairs Talking n
 
 inside-if : (z : Sizes) (n : Net) (k : ℕ) (s : BrickState) (c : Bool) → IsBuilt z n → n.node k ≡ a_brick s → is_in z k ≡ c → is_in z k ≡ true
@@ -181,7 +181,7 @@ member-asked z n at from l s c sj x out back there ne alive h unknown =
     let before : Meets from at sj s x (l ∷ out) back true = subst (λ d. Meets from at sj s x (l ∷ out) back (not d)) f.live (h unknown) in
     let owner : Owner z from at = record { low = low-at z n from sj c.wanted there; inside = f.letter.sender; other = ne } in
     let after = member-answers z at from x sj.order l (seat s) t c.turn owner (stood-at z n at s c.wanted f.here) (asks-at z n at s c.wanted f.here)
-    (may-hear z n at from l s c) (c.right sj x c.turn there alive) before in
+    (may-hear z n at from l s c) (c.right sj x c.turn there alive unknown) before in
     let said = sym (says-append sj.order x back (gains z t.out.letters from)) in
     let lives : t.state.stopped ≡ false = takes-stopped s from l ∙ f.live in
     subst (λ d. Meets from at sj t.state x out (back ++ gains z t.out.letters from) (not d)) (sym lives)

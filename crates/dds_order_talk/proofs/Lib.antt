@@ -24,8 +24,8 @@ pub mod BrickWhole
 pub mod MemberTurns
 pub mod Talking
 pub mod LetterEvents
+pub mod InstallsApart
 pub mod RightLetters
 pub mod Givers
 pub mod Fitting
-pub mod InstallsApart
 pub mod TalkKeeps

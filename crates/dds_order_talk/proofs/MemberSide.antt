@@ -32,7 +32,7 @@ use Rattle.dds_order_talk.specs.Table.Talks.{live, gone}
 -- The member's side of a conversation: what its deeds beside it, and its rows for leases and for pairs, make of the line.
 
 -- leaves under a lease stay
-overlap-self : (x : Name) → overlaps x x ≡ true
+pub overlap-self : (x : Name) → overlaps x x ≡ true
 overlap-self x = eq-eqb _ _ refl
 
 in-self : (x : Name) → In x x

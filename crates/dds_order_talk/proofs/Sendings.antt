@@ -84,7 +84,7 @@ lease-apart its true same x what e f g = cc
 lease-apart true false same x what e f g = ap (λ c. one c old) (e ∙ g)
 lease-apart false false same x what e f g = ap (λ c. one c old) (e ∙ g)
 
-work-as : (its named : Bool) (a : Ask) → its ≡ true → named ≡ true → work_asks its named a ≡ a ∷ []
+pub work-as : (its named : Bool) (a : Ask) → its ≡ true → named ≡ true → work_asks its named a ≡ a ∷ []
 work-as true true a e f = refl
 work-as true false a e f = cc
 work-as false named a e f = cc

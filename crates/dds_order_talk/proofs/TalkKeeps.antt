@@ -39,7 +39,7 @@ use Rattle.dds_order_talk.proofs.Moves.{Tells, member-stops}
 use Rattle.dds_order_talk.proofs.Projections.{IsNotAsked, IsNotSaid, says-append}
 use Rattle.dds_order_talk.proofs.RightLetters.{LeavesFit, right-of}
 use Rattle.dds_order_talk.proofs.Speaking.{Speaks}
-use Rattle.dds_order_talk.proofs.Talking.{TalkWith, Talking, Wanted, asks-at, low-at, side-at, speaks-of, stood-at, talk-gone, talk-of}
+use Rattle.dds_order_talk.proofs.Talking.{TalkWith, Talking, Wanted, asks-at, low-at, side-at, speaks-of, stood-at, talk-gone, talk-of, with-of}
 use Rattle.dds_order_talk.specs.Seen.{BrickTalk, New, Own, asks, rests, says, view}
 use Rattle.dds_order_talk.specs.Table.{Ask, Say, Talks, View}
 use Rattle.dds_order_talk.specs.Table.Talks.{lost, gone}
@@ -257,7 +257,7 @@ order-talks z n at o s built w here g =
 abbrev pub MayTake : Net → Event → Type 0
 MayTake n (brick_takes at from l s) =
     (sj : BrickState) (x : Name) (u : Turns from (seat s) l (live_brick_turn s from l)) → n.node from ≡ a_brick sj → sj.stopped ≡ false
-    → LeavesFit from x sj.order l u.first u.next (says sj.order x (sent u.answers))
+    → has_node sj.known at ≡ false → LeavesFit from x sj.order l u.first u.next (says sj.order x (sent u.answers))
 MayTake n other = Unit {0}
 
 pub talks-kept : (z : Sizes) (cs : List Caller) (n : Net) (e : Event) → z.bricks ≤ 64 → z.libraries ≤ 16 → IsBuilt z n → Fits z cs n e → Wanted z n
@@ -273,7 +273,8 @@ talks-kept z cs n (brick_takes at from l s) few some built f w r g =
       takes = f;
       another = another;
       turn = letter-turns s from l another;
-      right = λ sj x u e alive. right-of z n at from l s sj x u.first u.next (says sj.order x (sent u.answers)) w f e alive (r sj x u e alive);
+      right = λ sj x u e alive unknown. right-of z n at from l s sj x u w f e alive unknown (λ ne y.
+          with-of from at sj s (n.node from) (n.node at) (n.channel from at) (n.channel at from) e f.here ne (g from at) y) (r sj x u e alive unknown);
       talks = g;
     })
 talks-kept z cs n (brick_told at o s) few some built f w r g = order-talks z n at o s built w f.here g
