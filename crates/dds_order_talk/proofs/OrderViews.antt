@@ -37,7 +37,7 @@ without-other ns from m ne =
     same-has (has (without ns from) m) (has ns m) (λ h. (in-without ns from m h).1)
     (λ h. has-kept (λ k. not (k == from)) ns m (ap not (ne_eqb m from ne)) h)
 
-pub append-other : (ns : List ℕ) (from m : ℕ) → (m ≡ from → ⊥) → has (ns ++ from ∷ []) m ≡ has ns m
+append-other : (ns : List ℕ) (from m : ℕ) → (m ≡ from → ⊥) → has (ns ++ from ∷ []) m ≡ has ns m
 append-other ns from m ne =
     has-append ns (from ∷ []) m ∙ ap (λ c. has ns m || c) (ne-one from m (λ e. ne (sym e))) ∙ or-none (has ns m)
   where

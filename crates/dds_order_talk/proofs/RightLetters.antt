@@ -95,7 +95,8 @@ apart-of z n at from l s sj x u None number made w f there alive unknown ne talk
 apart-of z n at from l s sj x u (Some o) number made w f there alive unknown ne talk opened e its named =
     let line = subst (λ c. Meets from at sj s o.name c (n.channel at from)) (f.letter.first ∙ ap (λ k. k ∷ f.letter.others) e) (talk o.name unknown) in
     let own = subst (λ q. Talks o.name (Own s.leaves o.name) (New s.leaves o.name) (not sj.stopped) (not s.stopped) (view rests sj.order o.name at)
-    (asks q o.name (letter.Install number made ∷ f.letter.others)) (is_given s.locks.leases o.name from) (says sj.order o.name (n.channel at from))) opened line in
+    (asks q o.name (letter.Install number made ∷ f.letter.others)) (is_given s.locks.leases o.name from) (says sj.order o.name (n.channel at from))) opened
+    line in
     let told = subst (λ a. Talks o.name (Own s.leaves o.name) (New s.leaves o.name) (not sj.stopped) (not s.stopped) (view rests sj.order o.name at)
     (a ++ asks (Some o) o.name f.letter.others) (is_given s.locks.leases o.name from) (says sj.order o.name (n.channel at from)))
     (work-as (o.number == number) (same_name o.name o.name) (install made) its (name-self o.name)) own in
