@@ -29,3 +29,4 @@ pub mod RightLetters
 pub mod Givers
 pub mod Fitting
 pub mod TalkKeeps
+pub mod TalkBegins
