@@ -29,7 +29,7 @@ new-flags o k x (no_node e) = subst (LibraryIs (FlagsBacked [])) (sym e) tt
 new-flags o k x (new_a_brick e) = subst (LibraryIs (FlagsBacked [])) (sym e) tt
 new-flags o k x (new_a_library high e) = subst (LibraryIs (FlagsBacked [])) (sym e) tt
 
-start-backed : (o : OpeningOf) → AreBacked (history_of (start o)) (net (sizes_of o) (start o).world) (λ t. None)
+pub start-backed : (o : OpeningOf) → AreBacked (history_of (start o)) (net (sizes_of o) (start o).world) (λ t. None)
 start-backed o =
     record {
       updates = λ u f list e. cc;

@@ -46,11 +46,11 @@ use Rattle.dds_law_leaf.proofs.Turns.{Turned, then-plain, turned, turned-if, tur
 -- What a brick's turn does with leaves.
 
 -- the leaf of a refusal
-abbrev OfRefusal : (Leaf → Type 0) → Option Refusal → Type 0
+abbrev pub OfRefusal : (Leaf → Type 0) → Option Refusal → Type 0
 OfRefusal P None = Unit {0}
 OfRefusal P (Some why) = Each P (refusal_leaf why)
 
-abbrev OfDenial : (Leaf → Type 0) → Option Denial → Type 0
+abbrev pub OfDenial : (Leaf → Type 0) → Option Denial → Type 0
 OfDenial P None = Unit {0}
 OfDenial P (Some why) = Each P (denial_leaf why)
 
@@ -71,25 +71,25 @@ module _ (P : Leaf → Type 0) where
   of-stale None name stamp h = tt
   of-stale (Some leaf) name stamp h = of-stale-if leaf _ h
 
-  of-denial : (x : Option Refusal) (b : Bool) → OfRefusal P x → OfDenial P (first_some (as_denial x) (when b denial.Full))
+  pub of-denial : (x : Option Refusal) (b : Bool) → OfRefusal P x → OfDenial P (first_some (as_denial x) (when b denial.Full))
   of-denial None true h = tt
   of-denial None false h = tt
   of-denial (Some why) b h = h
 
-  of-get : (s : BrickState) (key : ℕ) (name : Name) (stamp : StampOf) → InMap P s.leaves → OfRefusal P (get_refusal s key name stamp)
+  pub of-get : (s : BrickState) (key : ℕ) (name : Name) (stamp : StampOf) → InMap P s.leaves → OfRefusal P (get_refusal s key name stamp)
   of-get s key name stamp h =
       of-first (when (joins_key s.order key) refusal.Lease) _ (of-when (joins_key s.order key) refusal.Lease tt)
       (of-first (stale_against (leaf_for s.leaves key) name stamp) _ (of-stale (leaf_for s.leaves key) name stamp (in-for P s.leaves key h))
       (of-when (is_locked s key) refusal.Lock tt))
 
-  of-update : (s : BrickState) (key : ℕ) (name : Name) (stamp : StampOf) → InMap P s.leaves → OfRefusal P (update_refusal s key name stamp)
+  pub of-update : (s : BrickState) (key : ℕ) (name : Name) (stamp : StampOf) → InMap P s.leaves → OfRefusal P (update_refusal s key name stamp)
   of-update s key name stamp h =
       of-first (when (joins_key s.order key) refusal.Lease) _ (of-when (joins_key s.order key) refusal.Lease tt)
       (of-first (stale_against (leaf_for s.leaves key) name stamp) _ (of-stale (leaf_for s.leaves key) name stamp (in-for P s.leaves key h))
       (of-first (when (lease_covers s.locks.leases key) refusal.Lease) _ (of-when (lease_covers s.locks.leases key) refusal.Lease tt)
       (of-when (is_locked s key) refusal.Lock tt)))
 
-  of-lease : (s : BrickState) (name : Name) (stamp : Option StampOf) → InMap P s.leaves → OfRefusal P (lease_refusal s name stamp)
+  pub of-lease : (s : BrickState) (name : Name) (stamp : Option StampOf) → InMap P s.leaves → OfRefusal P (lease_refusal s name stamp)
   of-lease s name stamp h =
       let other = not (is_found stamp (get s.leaves name)) in
       of-first (when (joins_over s.order name) refusal.Lease) _ (of-when (joins_over s.order name) refusal.Lease tt)
@@ -98,7 +98,7 @@ module _ (P : Leaf → Type 0) where
       (of-first (when (is_some (leased s.locks.leases name)) refusal.Lease) (when (any_under s.locks.pending name) refusal.Lock)
       (of-when (is_some (leased s.locks.leases name)) refusal.Lease tt) (of-when (any_under s.locks.pending name) refusal.Lock tt)))
 
-  no-leaf : (txn : Txn) (value : Option (List ℕ)) → InLetter P (letter.Got txn (calls.answer_of value))
+  pub no-leaf : (txn : Txn) (value : Option (List ℕ)) → InLetter P (letter.Got txn (calls.answer_of value))
   no-leaf txn None = tt
   no-leaf txn (Some value) = tt
 

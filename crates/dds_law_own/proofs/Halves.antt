@@ -101,7 +101,7 @@ differ false x p pos t e =
     let back : x - p + p ≡ x = omega (arith, le) in
     shifted (x - p) p pos (ap (λ i. i % (p + p)) back ∙ e)
 
-twice : (d : ℕ) → 1 ≤ d → 2 ^ d ≡ 2 ^ (d - 1) + 2 ^ (d - 1)
+pub twice : (d : ℕ) → 1 ≤ d → 2 ^ d ≡ 2 ^ (d - 1) + 2 ^ (d - 1)
 twice d h =
     let e : d ≡ suc (d - 1) = omega (arith, h) in
     let t : 2 ^ suc (d - 1) ≡ 2 ^ (d - 1) + 2 ^ (d - 1) = two-pow-succ (d - 1) in

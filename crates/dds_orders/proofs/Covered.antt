@@ -63,7 +63,7 @@ pub record Found (m : LeafMap) (n key : ℕ) : Type 0 where
   pub low : depth ≤ n
   pub there : Has m (name_at key depth)
 
-found : (m : LeafMap) (n key : ℕ) → is_some (leaf_within m n key) ≡ true → Found m n key
+pub found : (m : LeafMap) (n key : ℕ) → is_some (leaf_within m n key) ≡ true → Found m n key
 found m zero key h = record { depth = 0; low = omega arith; there = sym (ap is_some (within-none m key)) ∙ h }
 found m (suc n) key h = elim (found-if m n key (get m (name_at key (suc n))) (leaf_within m n key) refl (sym (ap is_some (within-more m n key)) ∙ h)) [
   | inl k ↦ record { depth = suc n; low = omega arith; there = k }
@@ -78,7 +78,7 @@ or-second : (x y : Option Leaf) → is_some y ≡ true → is_some (or_else x y)
 or-second None y h = h
 or-second (Some leaf) y h = refl
 
-finds : (m : LeafMap) (n key d : ℕ) → d ≤ n → Has m (name_at key d) → is_some (leaf_within m n key) ≡ true
+pub finds : (m : LeafMap) (n key d : ℕ) → d ≤ n → Has m (name_at key d) → is_some (leaf_within m n key) ≡ true
 finds m zero key d le h =
     let is : d ≡ 0 = omega (arith, le) in
     ap is_some (within-none m key) ∙ subst (λ i. Has m (name_at key i)) is h

@@ -105,12 +105,12 @@ not-under top q e = elim (cases_Bool (is_under top q)) [
   | inr h ↦ h
 ]
 
-kept-if : (c u : Bool) (leaf : Leaf) (x : Option Leaf) → u ≡ false → is_some x ≡ true → is_some (cond c (Some leaf) (cond (not u) x None)) ≡ true
+pub kept-if : (c u : Bool) (leaf : Leaf) (x : Option Leaf) → u ≡ false → is_some x ≡ true → is_some (cond c (Some leaf) (cond (not u) x None)) ≡ true
 kept-if true u leaf x e h = refl
 kept-if false true leaf x e h = cc
 kept-if false false leaf x e h = h
 
-has-with : (m : LeafMap) (leaf : Leaf) (q : Name) (c u : Bool) → (q.bits == leaf.name.bits && q.depth == leaf.name.depth) ≡ c → is_under leaf.name q ≡ u
+pub has-with : (m : LeafMap) (leaf : Leaf) (q : Name) (c u : Bool) → (q.bits == leaf.name.bits && q.depth == leaf.name.depth) ≡ c → is_under leaf.name q ≡ u
     → is_some (cond c (Some leaf) (cond (not u) (get m q) None)) ≡ true → Has (put m leaf) q
 has-with m leaf q c u e f h =
     ap is_some (get-with (cut m leaf.name) leaf.name leaf q

@@ -329,7 +329,7 @@ with-some s y (Some o) e k c =
     (seat (notices.order_goes (record s { order = None }) o y o.phase).state)) (sym (ap (λ q. record (seat s) { own = record (own s) { order = q } }) e))
     (own_rows.order_goes (record s { order = None }) o y o.phase refl k (λ n f. copied-known s y n o f k c)).trip)
 
-order_part : (s : BrickState) (y : NodeNo) → has_node s.known y ≡ true → Goes (seat s) (notices.order_part s y)
+pub order_part : (s : BrickState) (y : NodeNo) → has_node s.known y ≡ true → Goes (seat s) (notices.order_part s y)
 order_part s y k = goes-when (notices.concerns_some y s.order) (λ c. with-some s y s.order refl k c) (λ c. plain _ refl tt)
 
 notice_row : (s : BrickState) (y : NodeNo) → y < 80 → (y ≡ s.number → ⊥) → Turns y (seat s) letter.Notice (notices.notice_row s y)

@@ -66,7 +66,7 @@ order-made P None o made e f h = cc
 order-made P (Some p) o made e f h =
     let is : p ≡ o = cc in each-is P (made_leaf p.phase) made (ap (λ (x : OpenOrder). made_leaf x.phase) is ∙ ap made_leaf f) h.1
 
-stands-known : (me : ℕ) (c : Book) (x : Leafing) (made : Leaf) → LeafedBy me c x → Stands x made → Known c made
+pub stands-known : (me : ℕ) (c : Book) (x : Leafing) (made : Leaf) → LeafedBy me c x → Stands x made → Known c made
 stands-known me c x made h (installing o e f) = order-made (Known c) x.order o made e f h.order
 stands-known me c x made h (serving name e) = each-is (Known c) (get x.leaves name) (record made { name = name }) e (h.leaves name)
 

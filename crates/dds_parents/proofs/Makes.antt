@@ -98,7 +98,7 @@ get-put : (m : LeafMap) (leaf : Leaf) → get (put m leaf) leaf.name ≡ Some le
 get-put m leaf =
     get-with (cut m leaf.name) leaf.name leaf leaf.name ∙ ap (λ c. cond c (Some leaf) (get (cut m leaf.name) leaf.name)) (same-name leaf.name)
 
-served-there : (x : Leafing) (m : LeafMap) (o : OpenOrder) (made : Leaf) (t : Task) → x.leaves ≡ served m o made t → Stands x made
+pub served-there : (x : Leafing) (m : LeafMap) (o : OpenOrder) (made : Leaf) (t : Task) → x.leaves ≡ served m o made t → Stands x made
 served-there x m o made (Join via) e = serving made.name (ap (λ k. get k made.name) e ∙ get-put m made)
 served-there x m o made Split e =
     serving (sibling made).name (ap (λ k. get k (sibling made).name) e ∙ get-put (put (remove m o.name) made) (sibling made))
@@ -124,11 +124,11 @@ lists-all me s o leaf fixed ready h n k =
     let it : Asking me s.known p = after.asked p refl in
     it.made leaf made fixed refl n k
 
-stamp-of : (s : BrickState) (o : OpenOrder) (leaf : Leaf) (t : Task) → (order.made_leaf s o leaf t).stamp ≡ record { maker = s.number; count = s.made }
+pub stamp-of : (s : BrickState) (o : OpenOrder) (leaf : Leaf) (t : Task) → (order.made_leaf s o leaf t).stamp ≡ record { maker = s.number; count = s.made }
 stamp-of s o leaf (Join via) = refl
 stamp-of s o leaf Split = refl
 
-prev-of : (s : BrickState) (o : OpenOrder) (leaf : Leaf) (t : Task) → (order.made_leaf s o leaf t).prev ≡ leaf.stamp
+pub prev-of : (s : BrickState) (o : OpenOrder) (leaf : Leaf) (t : Task) → (order.made_leaf s o leaf t).prev ≡ leaf.stamp
 prev-of s o leaf (Join via) = refl
 prev-of s o leaf Split = refl
 

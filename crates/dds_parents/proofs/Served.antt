@@ -75,7 +75,7 @@ put-if true u leaf new x h = inl (refl, same-some (Some leaf) new leaf h refl)
 put-if false true leaf new x h = cc
 put-if false false leaf new x h = inr h
 
-put-is : (m : LeafMap) (leaf new : Leaf) (q : Name) → get (put m leaf) q ≡ Some new → ((q ≡ leaf.name) × (new ≡ leaf)) ⊎ (get m q ≡ Some new)
+pub put-is : (m : LeafMap) (leaf new : Leaf) (q : Name) → get (put m leaf) q ≡ Some new → ((q ≡ leaf.name) × (new ≡ leaf)) ⊎ (get m q ≡ Some new)
 put-is m leaf new q h =
     let same = q.bits == leaf.name.bits && q.depth == leaf.name.depth in
     let e : get (put m leaf) q ≡ cond same (Some leaf) (cond (not (is_under leaf.name q)) (get m q) None) =
@@ -86,7 +86,7 @@ left-if : (c : Bool) (x : Option Leaf) (new : Leaf) → cond c None x ≡ Some n
 left-if true x new h = cc
 left-if false x new h = h
 
-left-is : (m : LeafMap) (n q : Name) (new : Leaf) → get (remove m n) q ≡ Some new → get m q ≡ Some new
+pub left-is : (m : LeafMap) (n q : Name) (new : Leaf) → get (remove m n) q ≡ Some new → get m q ≡ Some new
 left-is m n q new h = left-if (q.bits == n.bits && q.depth == n.depth) (get m q) new (sym (get-without m n q) ∙ h)
 
 -- the leaf over a key is as before, or it was this one, and is the other one or the other half's
@@ -95,9 +95,9 @@ pub data Became (mine leaf old new : Leaf) : Type 0 where
   changed : old ≡ mine → record leaf { name = new.name } ≡ new → Became mine leaf old new
 
 -- one of two halves
-record HalfOf (leaf : Leaf) (q : Name) (new : Leaf) : Type 0 where
-  same : record leaf { name = new.name } ≡ new
-  is : (q ≡ leaf.name) ⊎ (q ≡ other_half leaf.name)
+pub record HalfOf (leaf : Leaf) (q : Name) (new : Leaf) : Type 0 where
+  pub same : record leaf { name = new.name } ≡ new
+  pub is : (q ≡ leaf.name) ⊎ (q ≡ other_half leaf.name)
 
 half-is : (leaf new : Leaf) (q : Name) (c : Bool) → q ≡ (if c then leaf else sibling leaf).name → new ≡ (if c then leaf else sibling leaf) → HalfOf leaf q new
 half-is leaf new q true e f = record { same = subst (λ (l : Leaf). record leaf { name = l.name } ≡ l) (sym f) refl; is = inl e }
@@ -107,7 +107,7 @@ half-of : (leaf new : Leaf) (q : Name) (c : Bool) → q ≡ (if c then sibling l
 half-of leaf new q true e f = half-is leaf new q false e f
 half-of leaf new q false e f = half-is leaf new q true e f
 
-halves-are : (m : LeafMap) (n : Name) (leaf new : Leaf) (q : Name) → get (put (put (remove m n) (low_of leaf)) (high_of leaf)) q ≡ Some new
+pub halves-are : (m : LeafMap) (n : Name) (leaf new : Leaf) (q : Name) → get (put (put (remove m n) (low_of leaf)) (high_of leaf)) q ≡ Some new
     → HalfOf leaf q new ⊎ (get m q ≡ Some new)
 halves-are m n leaf new q h = elim (put-is (put (remove m n) (low_of leaf)) (high_of leaf) new q h) [
   | inl k ↦ inl (half-of leaf new q (is_low leaf.name) k.0 k.1)

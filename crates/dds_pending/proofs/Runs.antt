@@ -27,7 +27,7 @@ start-fits gone o k x (no_node e) = subst (NodeFits gone) (sym e) tt
 start-fits gone o k x (new_a_brick e) = subst (NodeFits gone) (sym e) tt
 start-fits gone o k x (new_a_library high e) = subst (NodeFits gone) (sym e) tt
 
-start-fitting : (o : OpeningOf) → IsOpening o → AreFitting (sizes_of o) (net (sizes_of o) (start o).world)
+pub start-fitting : (o : OpeningOf) → IsOpening o → AreFitting (sizes_of o) (net (sizes_of o) (start o).world)
 start-fitting o h =
     let n = net (sizes_of o) (start o).world in
     let known = start-known o h in

@@ -1,4 +1,4 @@
-use Rattle.std.proofs.Common.{◌≡◌, ℕ, ◌+◌, Bool, true, false, Option, Some, None, List, [], ◌∷◌, refl, ap, ◌∙◌}
+use Rattle.std.proofs.Common.{◌≡◌, inl, inr, ℕ, ◌+◌, Bool, true, false, Option, Some, None, List, [], ◌∷◌, refl, ap, ◌∙◌}
 use Rattle.std.specs.FinMap.{remove}
 use Rattle.std.specs.Prelude.{if◌then◌else◌}
 use Rattle.dds_base.specs.declared.leaf.Leaf.{Leaf}
@@ -80,24 +80,25 @@ module _ (p : OpenOrder) where
   pub leases_on : (s : BrickState) (o : OpenOrder) → IsOf p o → FinishOf p s (order.leases_on s o)
   leases_on s o same = finish-when s (is_none_left o.waiting) (λ e. leased_all_at s o o.leaf same refl) (λ e. goes_on refl)
 
-  fixing : (s : BrickState) (o : OpenOrder) (from : NodeNo) (leaf : Leaf) → IsOf p o → FinishOf p s (order.fixes s o from leaf)
-  fixing s o from leaf same =
+  fixing : (s : BrickState) (o : OpenOrder) (from : NodeNo) (leaf : Leaf) → is_join o.task ≡ true → IsOf p o → FinishOf p s (order.fixes s o from leaf)
+  fixing s o from leaf join same =
       finish-when s (order.is_worn leaf) (λ e. ends s o answered.Worn)
       (λ e. finish-when s (nat_le MEMBERS (length (live leaf.list (has_node s.known)))) (λ f. ends s o answered.GroupFull)
-      (λ f. widening (leases_on s (order.widened s o from leaf) same)))
+      (λ f. widening (leases_on s (order.widened s o from leaf) (same.0, same.1, same.2, inr join))))
     where
       widening : FinishOf p s (order.leases_on s (order.widened s o from leaf)) → FinishOf p s (order.fixed s o from leaf)
       widening (goes_on e) = goes_on e
       widening (finish made h e) = finish made h e
 
-  granted_join : (s : BrickState) (o : OpenOrder) (from : NodeNo) (leaf : Leaf) (q : Option Leaf) → IsOf p o
-      → FinishOf p s (order.granted_join s o from leaf q)
-  granted_join s o from leaf None same = fixing s o from leaf same
-  granted_join s o from leaf (Some fixed) same = leases_on s o same
+  granted_join : (s : BrickState) (o : OpenOrder) (from : NodeNo) (leaf : Leaf) (q : Option Leaf) → is_join o.task ≡ true
+      → IsOf p o → FinishOf p s (order.granted_join s o from leaf q)
+  granted_join s o from leaf None join same = fixing s o from leaf join same
+  granted_join s o from leaf (Some fixed) join same = leases_on s o same
 
-  pub grants : (s : BrickState) (o : OpenOrder) (from : NodeNo) (leaf : Leaf) (t : Task) → IsOf p o → FinishOf p s (order.grants s o from leaf t)
-  grants s o from leaf (Join via) same = granted_join s o from leaf o.leaf same
-  grants s o from leaf Split same = leases_on s o same
+  pub grants : (s : BrickState) (o : OpenOrder) (from : NodeNo) (leaf : Leaf) (t : Task) → o.task ≡ t → IsOf p o
+      → FinishOf p s (order.grants s o from leaf t)
+  grants s o from leaf (Join via) e same = granted_join s o from leaf o.leaf (ap is_join e) same
+  grants s o from leaf Split e same = leases_on s o same
 
   copied_all : (s : BrickState) (o : OpenOrder) (leaf : Option Leaf) → IsOf p o → o.leaf ≡ leaf → FinishOf p s (order.copied_all s o leaf)
   copied_all s o None same fixed = goes_on refl
@@ -119,6 +120,6 @@ module _ (p : OpenOrder) where
   pub order_goes : (s : BrickState) (y : NodeNo) (phase : OrderPhase) → p.phase ≡ phase → FinishOf p s (notices.order_goes s p y phase)
   order_goes s y Leasing e =
       finish-when s (notices.is_lost p y p.task) (λ f. ends s p answered.NoSource)
-      (λ f. leases_on s (record p { waiting = without p.waiting y }) (refl, refl, refl))
+      (λ f. leases_on s (record p { waiting = without p.waiting y }) (refl, refl, refl, inl refl))
   order_goes s y (Copying source) e = copies_again s p p.leaf
-  order_goes s y (Installing made) e = installs_on s (record p { waiting = without p.waiting y }) made (refl, refl, refl) e
+  order_goes s y (Installing made) e = installs_on s (record p { waiting = without p.waiting y }) made (refl, refl, refl, inl refl) e

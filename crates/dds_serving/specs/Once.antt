@@ -1,11 +1,12 @@
 -- What one turn of a brick does to its leaves.
-use Rattle.std.specs.Prelude.{◌≡◌, ◌||◌, true, Option, Some, None, is_some}
+use Rattle.std.specs.Prelude.{◌≡◌, ◌⊎◌, ◌||◌, true, Option, Some, None, is_some}
 use Rattle.std.specs.FinMap.{get}
 use Rattle.dds_base.specs.Name.{Name}
 use Rattle.dds_base.specs.NodeSet.{has_node}
 use Rattle.dds_base.specs.declared.leaf.Leaf.{Leaf}
 use Rattle.dds_base.specs.declared.number.NodeNo.{NodeNo}
 use Rattle.dds_base.specs.declared.op.Order.{Order}
+use Rattle.dds_brick_rows.specs.Refusal.{is_join}
 use Rattle.dds_brick_rows.specs.Take.{replaced}
 use Rattle.dds_core.specs.Brick.{brick_input, live_brick_turn}
 use Rattle.dds_groups.specs.Leaves.{successor}
@@ -20,9 +21,9 @@ use Rattle.dds_states.specs.declared.brick_state.OrderPhase.TheVariants.{Install
 use Rattle.dds_states.specs.declared.brick_state.Task.TheVariants.{Split}
 use Rattle.dds_world.specs.Groups.{letter_leaf}
 
--- one order at two moments
+-- one order at two moments; only a join's leaf changes between them
 abbrev pub IsOf : OpenOrder → OpenOrder → Type 0
-IsOf p o = (o.number ≡ p.number) × (o.name ≡ p.name) × (o.task ≡ p.task)
+IsOf p o = (o.number ≡ p.number) × (o.name ≡ p.name) × (o.task ≡ p.task) × ((o.leaf ≡ p.leaf) ⊎ (is_join o.task ≡ true))
 
 -- the order was open before the turn, or is a split of an own leaf that opens in it
 pub data IsOpen (s : BrickState) (p : OpenOrder) : Type 0 where
@@ -37,12 +38,16 @@ pub data HasMadeLeaf (number made_before : NodeNo) (p : OpenOrder) (made : Leaf)
       → made ≡ made_leaf u o leaf o.task → HasMadeLeaf number made_before p made
 
 -- a brick's leaves after a turn in which it was told a leaf, or none: they are as before; or the told leaf stands in the place of an own
--- one; or the leaf that the open order made is served
-pub data ChangeOnce (s : BrickState) (told : Option Leaf) (t : BrickTurn) : Type 0 where
-  stays : t.state.leaves ≡ s.leaves → ChangeOnce s told t
+-- one
+pub data TakeOnce (s : BrickState) (told : Option Leaf) (t : BrickTurn) : Type 0 where
+  stays : t.state.leaves ≡ s.leaves → TakeOnce s told t
   takes : (mine leaf : Leaf) → told ≡ Some leaf → own_leaf s.leaves leaf.name ≡ Some mine
       → (is_some (successor mine leaf) || is_better_rival (has_node s.known) mine leaf) ≡ true → t.state.leaves ≡ replaced s.leaves mine leaf
-      → ChangeOnce s told t
+      → TakeOnce s told t
+
+-- or the leaf that the open order made is served
+pub data ChangeOnce (s : BrickState) (told : Option Leaf) (t : BrickTurn) : Type 0 where
+  rests : TakeOnce s told t → ChangeOnce s told t
   serves : (p : OpenOrder) (made : Leaf) → IsOpen s p → HasMadeLeaf s.number s.made p made
       → t.state.leaves ≡ (serving s p made p.task).leaves → ChangeOnce s told t
 

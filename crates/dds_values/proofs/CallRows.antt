@@ -1,4 +1,4 @@
-use Rattle.std.proofs.Common.{◌≡◌, ℕ, true, false, Option, Some, None, List, [], ◌∷◌, ◌++◌, refl, sym, ap, subst}
+use Rattle.std.proofs.Common.{◌≡◌, ℕ, false, Option, Some, None, List, [], ◌∷◌, ◌++◌, refl, sym, ap, subst}
 use Rattle.std.proofs.lemmas.List.{append-nil}
 use Rattle.dds_base.specs.Name.{Name}
 use Rattle.dds_base.specs.Number.{StampOf, Txn}
@@ -18,49 +18,25 @@ use Rattle.dds_core.proofs.Lists.{all-map}
 use Rattle.dds_history.specs.History.{IsLegal}
 use Rattle.dds_history.specs.Map.{found}
 use Rattle.dds_law_own.proofs.Ways.{first-none, is-none, when-none}
-use Rattle.dds_letters.specs.declared.letter.Letter.{Letter}
 use Rattle.dds_letters.specs.declared.letter.Letter.TheVariants as letter
 use Rattle.dds_letters.specs.declared.refusal.Denial.{Denial}
 use Rattle.dds_letters.specs.declared.refusal.Denial.TheVariants as denial
 use Rattle.dds_letters.specs.declared.refusal.Refusal.{Refusal}
 use Rattle.dds_letters.specs.declared.refusal.Refusal.TheVariants as refusal
 use Rattle.dds_locks.specs.Leases.{lease_covers}
-use Rattle.dds_locks.specs.Pending.{IsApart, first_of, holder}
+use Rattle.dds_locks.specs.Pending.{holder}
 use Rattle.dds_states.specs.Leaf.{leaf_for}
 use Rattle.dds_states.specs.Turn.{when}
 use Rattle.dds_states.specs.declared.brick_state.BrickState.{BrickState}
 use Rattle.dds_values.proofs.Bricks.{read-held, read-right}
 use Rattle.dds_values.proofs.Flags.{read-legal}
-use Rattle.dds_values.proofs.Rows.{MaySettle, prepared-at-own, same-at-own, settled-holds}
+use Rattle.dds_values.proofs.Rows.{prepared-at-own, same-at-own}
 use Rattle.dds_values.proofs.Tables.{left-read}
 use Rattle.dds_values.specs.Values.{HoldsTable, IsLeftBy}
 use Rattle.dds_world.specs.Values.{entries_of_points}
 use Rattle.std.specs.FinMap.{get}
 
--- Get, Prepare, Commit and Abort at their brick.
-
-found-holds : (made : List Made) (s : BrickState) (from : NodeNo) (txn : Txn) (q : Option Pending) (place : ℕ) (l : Letter)
-    → first_of s.locks.pending txn ≡ q → IsApart s.locks.pending → ((p : Pending) → q ≡ Some p → MaySettle made s place true p) → HoldsTable made s
-    → HoldsTable (made ++ all_kept made (points_made place l (calls.commit_found (calls.dropped s txn) from q).out.points))
-    (calls.commit_found (calls.dropped s txn) from q).state
-found-holds made s from txn None place l found apart may h = settled-holds made s txn true None place l found apart may h
-found-holds made s from txn (Some p) place l found apart may h = settled-holds made s txn true (Some p) place l found apart may h
-
-pub commit-holds : (made : List Made) (s : BrickState) (from : NodeNo) (txn : Txn) (place : ℕ) (l : Letter) → IsApart s.locks.pending
-    → ((p : Pending) → first_of s.locks.pending txn ≡ Some p → MaySettle made s place true p) → HoldsTable made s
-    → HoldsTable (made ++ all_kept made (points_made place l (calls.commit_row s from txn).out.points)) (calls.commit_row s from txn).state
-commit-holds made s from txn place l apart may h = found-holds made s from txn (first_of s.locks.pending txn) place l refl apart may h
-
-dropped-holds : (made : List Made) (s : BrickState) (txn : Txn) (q : Option Pending) (place : ℕ) (l : Letter) → first_of s.locks.pending txn ≡ q
-    → IsApart s.locks.pending → ((p : Pending) → q ≡ Some p → MaySettle made s place false p) → HoldsTable made s
-    → HoldsTable (made ++ []) (calls.aborted (calls.dropped s txn) q)
-dropped-holds made s txn None place l found apart may h = settled-holds made s txn false None place l found apart may h
-dropped-holds made s txn (Some p) place l found apart may h = settled-holds made s txn false (Some p) place l found apart may h
-
-pub abort-holds : (made : List Made) (s : BrickState) (from : NodeNo) (txn : Txn) (place : ℕ) (l : Letter) → IsApart s.locks.pending
-    → ((p : Pending) → first_of s.locks.pending txn ≡ Some p → MaySettle made s place false p) → HoldsTable made s
-    → HoldsTable (made ++ all_kept made (points_made place l (calls.abort_row s from txn).out.points)) (calls.abort_row s from txn).state
-abort-holds made s from txn place l apart may h = dropped-holds made s txn (first_of s.locks.pending txn) place l refl apart may h
+-- Get and Prepare at their brick.
 
 -- Prepare: an update that is kept finds its key free
 no-refusal : (r : Option Refusal) → as_denial r ≡ None → r ≡ None
@@ -101,7 +77,7 @@ read-holds made m key s e h =
       after = all-map (IsLeftBy made) (IsLeftBy (made ++ m ∷ [])) s.locks.pending (λ p k. left-read made m p reads k) h.after;
     }
 
-got-legal : (made : List Made) (s : BrickState) (from : NodeNo) (txn : Txn) (caller : CallerNo) (call : CallNo) (key : ℕ) (name : Name) (stamp : StampOf)
+pub got-legal : (made : List Made) (s : BrickState) (from : NodeNo) (txn : Txn) (caller : CallerNo) (call : CallNo) (key : ℕ) (name : Name) (stamp : StampOf)
     (place : ℕ) (o : Option Refusal) → get_refusal s key name stamp ≡ o → HoldsTable made s → IsLegal (entries_of_points made)
     → IsLegal (entries_of_points (made ++ all_kept made
     (points_made place (letter.Get txn caller call key name stamp) (calls.got s from txn key o).out.points)))
@@ -111,10 +87,3 @@ got-legal made s from txn caller call key name stamp place None e h legal =
     s key (read-right made s key name stamp e h.held) refl refl legal
 got-legal made s from txn caller call key name stamp place (Some why) e h legal =
     subst (λ l. IsLegal (entries_of_points l)) (sym (append-nil made)) legal
-
-pub get-legal : (made : List Made) (s : BrickState) (from : NodeNo) (txn : Txn) (caller : CallerNo) (call : CallNo) (key : ℕ) (name : Name)
-    (stamp : StampOf) (place : ℕ) → HoldsTable made s → IsLegal (entries_of_points made)
-    → IsLegal (entries_of_points (made ++ all_kept made
-    (points_made place (letter.Get txn caller call key name stamp) (calls.get_row s from txn key name stamp).out.points)))
-get-legal made s from txn caller call key name stamp place h legal =
-    got-legal made s from txn caller call key name stamp place (get_refusal s key name stamp) refl h legal

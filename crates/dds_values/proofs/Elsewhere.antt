@@ -1,15 +1,14 @@
 use Rattle.std.proofs.Common.{◌≡◌, ℕ, ◌==◌, Bool, true, false, not, cond, Option, Some, None, is_some, List, [], ◌∷◌, ◌++◌, refl, sym, ap, ◌∙◌, subst}
 use Rattle.std.proofs.lemmas.Bool.{and_parts, eqb-true}
 use Rattle.std.specs.List.{AllByRecursion}
-use Rattle.dds_base.specs.BrickList.{has}
 use Rattle.dds_base.specs.Number.{Txn, same_txn}
 use Rattle.dds_base.specs.Op.{is_get, the_key}
 use Rattle.dds_base.specs.declared.pending.Pending.{Pending}
 use Rattle.dds_cluster.specs.Lists.{is_applied, is_update_of}
 use Rattle.dds_cluster.specs.declared.trace.Made.{Made}
+use Rattle.dds_core.proofs.Lists.{all-both, all-map}
 use Rattle.dds_locks.proofs.Locked.{found-numbered}
 use Rattle.dds_locks.specs.Pending.{IsApart, first_of, holder}
-use Rattle.dds_net.specs.Net.{Net}
 use Rattle.dds_states.specs.Leaf.{leaf_for}
 use Rattle.dds_states.specs.declared.brick_state.BrickState.{BrickState}
 use Rattle.dds_talk.proofs.Parts.{is-same}
@@ -17,7 +16,7 @@ use Rattle.dds_talk.specs.Parts.{SureAt}
 use Rattle.dds_talk.specs.Seen.{at, at_of}
 use Rattle.dds_values.proofs.Bricks.{first-elsewhere, found-holder, self-key}
 use Rattle.dds_values.proofs.Tables.{left-first}
-use Rattle.dds_values.specs.Below.{IsCovered, ListsMember, LiveBrick, ServersShare}
+use Rattle.dds_values.specs.Below.{IsCovered}
 use Rattle.dds_values.specs.Values.{HoldsTable, IsLeftBy}
 
 -- A transaction that is applied for the first time is pending at each live brick that has a leaf for its key.
@@ -31,18 +30,9 @@ found-all P (x ∷ ps) t p h e = pick (same_txn x.txn t) e (found-all P ps t p h
     pick true f g = let is : x ≡ p = cc in subst P is h.0
     pick false f g = g f
 
-some-is : {X : Type 0} (o : Option X) → is_some o ≡ true → (x : X) × (o ≡ Some x)
+pub some-is : {X : Type 0} (o : Option X) → is_some o ≡ true → (x : X) × (o ≡ Some x)
 some-is None e = cc
 some-is (Some x) e = (x, refl)
-
--- a live brick that has a leaf for the key of what is pending at another one is a member of it
-pub server-listed : (n : Net) (m k : ℕ) (s v : BrickState) (t : Txn) (p : Pending) → ServersShare n → LiveBrick n m s → LiveBrick n k v
-    → first_of s.locks.pending t ≡ Some p → is_some (leaf_for v.leaves (the_key p.op)) ≡ true → has p.list k ≡ true
-server-listed n m k s v t p g here there found serves =
-    let mine = some-is (leaf_for s.leaves (the_key p.op)) (found-all (IsCovered s) s.locks.pending t p (g.covered m s here) found) in
-    let its = some-is (leaf_for v.leaves (the_key p.op)) serves in
-    found-all (ListsMember s k mine.0) s.locks.pending t p (g.lists m k s v mine.0 here there) found mine.1
-    (g.share m k s v (the_key p.op) mine.0 its.0 here there mine.1 its.1)
 
 -- a member for which it is sure, and which hasn't noted the commit, has it pending
 sure-found : (found : Option Pending) (noted : Option Bool) → (noted ≡ Some true → ⊥) → SureAt (at_of (is_some found) noted)
@@ -84,44 +74,61 @@ all-holders ps (x ∷ qs) a h = (
   all-holders ps qs a.1 (λ k e. h k (ap is_some (behind-is x qs k a.0 e) ∙ e) ∙ behind-is x qs k a.0 e),
 )
 
--- what another brick holds when a transaction is applied for the first time: `reaches` says that it waits there wherever a leaf covers
--- its key
+-- what a brick holds when a transaction is applied for the first time: `reaches` says that it waits there wherever a leaf covers its key,
+-- `meets` that what is pending on its key is that transaction
+abbrev pub SameTxn : Made → Pending → Type 0
+SameTxn m q = the_key m.entry.op ≡ the_key q.op → m.txn ≡ q.txn
+
 pub record IsFirst (made : List Made) (m : Made) (v : BrickState) : Type 0 where
   pub new : is_applied made m.txn ≡ false
   pub update : is_update_of m.txn m ≡ true
-  pub apart : IsApart v.locks.pending
-  pub covered : AllByRecursion (IsCovered v) v.locks.pending
+  pub meets : AllByRecursion (SameTxn m) v.locks.pending
   pub ops : AllByRecursion (λ q. q.txn ≡ m.txn → q.op ≡ m.entry.op) v.locks.pending
   pub reaches : is_some (leaf_for v.leaves (the_key m.entry.op)) ≡ true → holder v.locks.pending (the_key m.entry.op) ≡ Some m.txn
 
-same-txn : (made : List Made) (m : Made) (v : BrickState) (q : Pending) → IsFirst made m v → holder v.locks.pending (the_key q.op) ≡ Some q.txn
-    → IsCovered v q → the_key m.entry.op ≡ the_key q.op → m.txn ≡ q.txn
-same-txn made m v q f held covered k =
-    let s : Some m.txn ≡ Some q.txn =
-    sym (f.reaches (ap (λ x. is_some (leaf_for v.leaves x)) k ∙ covered)) ∙ ap (holder v.locks.pending) k ∙ held in cc
+-- where the key is held by the transaction, what is pending on it is that one
+held-meets : (v : BrickState) (m : Made) (q : Pending) → holder v.locks.pending (the_key q.op) ≡ Some q.txn
+    → (the_key m.entry.op ≡ the_key q.op → holder v.locks.pending (the_key m.entry.op) ≡ Some m.txn) → SameTxn m q
+held-meets v m q held at k =
+    let s : Some m.txn ≡ Some q.txn = sym (at k) ∙ ap (holder v.locks.pending) k ∙ held in cc
+
+-- at its own brick, and at another one
+pub own-meets : (v : BrickState) (m : Made) → IsApart v.locks.pending → holder v.locks.pending (the_key m.entry.op) ≡ Some m.txn
+    → AllByRecursion (SameTxn m) v.locks.pending
+own-meets v m apart at =
+    all-map (λ q. holder v.locks.pending (the_key q.op) ≡ Some q.txn) (SameTxn m) v.locks.pending (λ q held. held-meets v m q held (λ k. at))
+    (all-holders v.locks.pending v.locks.pending apart (λ k e. refl))
+
+pub other-meets : (v : BrickState) (m : Made) → IsApart v.locks.pending → AllByRecursion (IsCovered v) v.locks.pending
+    → (is_some (leaf_for v.leaves (the_key m.entry.op)) ≡ true → holder v.locks.pending (the_key m.entry.op) ≡ Some m.txn)
+    → AllByRecursion (SameTxn m) v.locks.pending
+other-meets v m apart covered reaches =
+    all-map (λ q. (holder v.locks.pending (the_key q.op) ≡ Some q.txn) × IsCovered v q) (SameTxn m) v.locks.pending
+    (λ q h. held-meets v m q h.0 (λ k. reaches (ap (λ x. is_some (leaf_for v.leaves x)) k ∙ h.1)))
+    (all-both (λ q. holder v.locks.pending (the_key q.op) ≡ Some q.txn) (IsCovered v) v.locks.pending
+    (all-holders v.locks.pending v.locks.pending apart (λ k e. refl)) covered)
 
 update-is : (t : Txn) (m : Made) → is_update_of t m ≡ true → m.txn ≡ t
 update-is t m e = is-same m.txn t (and_parts (same_txn m.txn t) (not (is_get m.entry.op)) e).0
 
-one-left : (made : List Made) (m : Made) (v : BrickState) (q : Pending) → IsFirst made m v → holder v.locks.pending (the_key q.op) ≡ Some q.txn
-    → IsCovered v q → (q.txn ≡ m.txn → q.op ≡ m.entry.op) → IsLeftBy made q → IsLeftBy (made ++ m ∷ []) q
-one-left made m v q f held covered same left =
+one-left : (made : List Made) (m : Made) (v : BrickState) (q : Pending) → IsFirst made m v → SameTxn m q → (q.txn ≡ m.txn → q.op ≡ m.entry.op)
+    → IsLeftBy made q → IsLeftBy (made ++ m ∷ []) q
+one-left made m v q f meets same left =
     left-first made m q f.new (λ e. sym (update-is q.txn m e))
     (record {
-      same_key = λ e. subst (λ t. is_update_of t m ≡ true) (same-txn made m v q f held covered (eqb-true (the_key m.entry.op) (the_key q.op) e)) f.update;
+      same_key = λ e. subst (λ t. is_update_of t m ≡ true) (meets (eqb-true (the_key m.entry.op) (the_key q.op) e)) f.update;
       same_op = λ e. same (sym (update-is q.txn m e));
     }) left
 
-all-left : (made : List Made) (m : Made) (v : BrickState) (qs : List Pending) → IsFirst made m v
-    → AllByRecursion (λ q. holder v.locks.pending (the_key q.op) ≡ Some q.txn) qs → AllByRecursion (IsCovered v) qs
+all-left : (made : List Made) (m : Made) (v : BrickState) (qs : List Pending) → IsFirst made m v → AllByRecursion (SameTxn m) qs
     → AllByRecursion (λ q. q.txn ≡ m.txn → q.op ≡ m.entry.op) qs → AllByRecursion (IsLeftBy made) qs → AllByRecursion (IsLeftBy (made ++ m ∷ [])) qs
-all-left made m v [] f a b c d = tt
-all-left made m v (q ∷ qs) f a b c d = (one-left made m v q f a.0 b.0 c.0 d.0, all-left made m v qs f a.1 b.1 c.1 d.1)
+all-left made m v [] f b c d = tt
+all-left made m v (q ∷ qs) f b c d = (one-left made m v q f b.0 c.0 d.0, all-left made m v qs f b.1 c.1 d.1)
 
 pub first-at-other : (made : List Made) (m : Made) (v : BrickState) → IsFirst made m v → HoldsTable made v → HoldsTable (made ++ m ∷ []) v
 first-at-other made m v f h =
     record {
       held = first-elsewhere made v m m.txn f.new f.update
           (λ key k serves. ap (holder v.locks.pending) (sym k) ∙ f.reaches (ap (λ q. is_some (leaf_for v.leaves q)) k ∙ serves)) h.held;
-      after = all-left made m v v.locks.pending f (all-holders v.locks.pending v.locks.pending f.apart (λ k e. refl)) f.covered f.ops h.after;
+      after = all-left made m v v.locks.pending f f.meets f.ops h.after;
     }

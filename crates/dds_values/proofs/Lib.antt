@@ -6,3 +6,17 @@ pub mod Flags
 pub mod Elsewhere
 pub mod Rows
 pub mod CallRows
+pub mod Points
+pub mod Settles
+pub mod Folds
+pub mod Turns
+pub mod Changes
+pub mod Leaves
+pub mod Serves
+pub mod OwnLeaves
+pub mod BrickTurns
+pub mod BrickFlags
+pub mod LibraryFlags
+pub mod AtBricks
+pub mod Kept
+pub mod Runs

@@ -1,19 +1,13 @@
-use Rattle.std.proofs.Common.{◌≡◌, ℕ, ◌&&◌, Bool, true, false, not, cond, Option, Some, None, List, [], ◌∷◌, ◌++◌, refl, sym, ap, ◌∙◌, subst}
-use Rattle.std.proofs.lemmas.List.{append-nil}
+use Rattle.std.proofs.Common.{◌≡◌, Bool, true, false, cond, Some, None, List, [], ◌∷◌, ◌++◌, refl, sym, ap, ◌∙◌, subst}
 use Rattle.std.specs.List.{AllByRecursion}
-use Rattle.std.specs.Prelude.{if◌then◌else◌}
 use Rattle.dds_base.specs.Number.{Txn, same_txn}
-use Rattle.dds_base.specs.Op.{is_get, the_key}
+use Rattle.dds_base.specs.Op.{the_key}
 use Rattle.dds_base.specs.declared.pending.Pending.{Pending}
 use Rattle.dds_brick_rows.specs.Calls as calls
-use Rattle.dds_brick_rows.specs.Resolution as rows
 use Rattle.dds_cluster.specs.Lists.{is_applied}
-use Rattle.dds_cluster.specs.Trace.{all_kept}
-use Rattle.dds_cluster.specs.Turn.{points_made, update_by}
 use Rattle.dds_cluster.specs.declared.trace.Made.{Made}
 use Rattle.dds_core.proofs.Lists.{all-append}
 use Rattle.dds_law_own.proofs.Lists.{all-first}
-use Rattle.dds_letters.specs.declared.letter.Letter.{Letter}
 use Rattle.dds_locks.specs.Pending.{IsApart, first_of, holder, is_numbered, without}
 use Rattle.dds_states.specs.declared.brick_state.BrickState.{BrickState}
 use Rattle.dds_values.proofs.Bricks.{aborted-held, applied-first, applied-further, prepared-held, same-held}
@@ -24,11 +18,11 @@ use Rattle.dds_values.specs.Values.{HoldsTable, IsLeftBy}
 
 -- an update that is pending is settled: committed for the first time, or again, or aborted
 pub first-at-own : (made : List Made) (m : Made) (s : BrickState) (txn : Txn) (p : Pending) → first_of s.locks.pending txn ≡ Some p
-    → m.txn ≡ p.txn → m.entry.op ≡ p.op → IsFirst made m s → HoldsTable made s
+    → m.txn ≡ p.txn → m.entry.op ≡ p.op → IsApart s.locks.pending → IsFirst made m s → HoldsTable made s
     → HoldsTable (made ++ m ∷ []) (calls.applied (calls.dropped s txn) p).state
-first-at-own made m s txn p found its same f h =
+first-at-own made m s txn p found its same apart f h =
     record {
-      held = applied-first made s txn p m f.apart found (ap (is_applied made) (sym its) ∙ f.new) same h.held;
+      held = applied-first made s txn p m apart found (ap (is_applied made) (sym its) ∙ f.new) same h.held;
       after = all-first (IsLeftBy (made ++ m ∷ [])) (is_numbered txn) s.locks.pending (first-at-other made m s f h).after;
     }
 
@@ -64,15 +58,8 @@ pub same-at-own : (made : List Made) (s u : BrickState) → u.leaves ≡ s.leave
 same-at-own made s u leaves pairs pending h =
     record { held = same-held made s u leaves pairs pending h.held; after = subst (AllByRecursion (IsLeftBy made)) (sym pending) h.after }
 
--- what a row needs to know of the update that it settles: that one that is applied is an update and, where it is new, waits where it
--- should; and that one that is aborted was never applied
-pub record MaySettle (made : List Made) (s : BrickState) (place : ℕ) (commit : Bool) (p : Pending) : Type 0 where
-  pub update : is_get p.op ≡ false
-  pub new : commit ≡ true → is_applied made p.txn ≡ false → IsFirst made (update_by place (calls.flag_at s p) p) s
-  pub never : commit ≡ false → is_applied made p.txn ≡ false
-
--- Outcome, and what a resolver decides
-without-none : (ps : List Pending) (t : Txn) → first_of ps t ≡ None → without ps t ≡ ps
+-- one that isn't pending
+pub without-none : (ps : List Pending) (t : Txn) → first_of ps t ≡ None → without ps t ≡ ps
 without-none [] t e = refl
 without-none (x ∷ ps) t e = pick (same_txn x.txn t) e (without-none ps t)
   where
@@ -80,33 +67,3 @@ without-none (x ∷ ps) t e = pick (same_txn x.txn t) e (without-none ps t)
         → cond b ps (x ∷ without ps t) ≡ x ∷ ps
     pick true f g = cc
     pick false f g = ap (λ l. x ∷ l) (g f)
-
-applied-if : (made : List Made) (s : BrickState) (txn : Txn) (p : Pending) (place : ℕ) (b : Bool) → is_applied made p.txn ≡ b
-    → IsApart s.locks.pending → first_of s.locks.pending txn ≡ Some p → MaySettle made s place true p → HoldsTable made s
-    → HoldsTable (made ++ ((if not (is_get p.op) && b then [] else update_by place (calls.flag_at s p) p ∷ []) ++ []))
-    (calls.applied (calls.dropped s txn) p).state
-applied-if made s txn p place true e apart found may h =
-    subst (λ g. HoldsTable (made ++ ((if not g && true then [] else update_by place (calls.flag_at s p) p ∷ []) ++ []))
-    (calls.applied (calls.dropped s txn) p).state) (sym may.update)
-    (subst (λ l. HoldsTable l (calls.applied (calls.dropped s txn) p).state) (sym (append-nil made)) (further-at-own made s txn p apart found e h))
-applied-if made s txn p place false e apart found may h =
-    subst (λ g. HoldsTable (made ++ ((if not g && false then [] else update_by place (calls.flag_at s p) p ∷ []) ++ []))
-    (calls.applied (calls.dropped s txn) p).state) (sym may.update)
-    (first-at-own made (update_by place (calls.flag_at s p) p) s txn p found refl refl (may.new refl e) h)
-
-pub settled-holds : (made : List Made) (s : BrickState) (txn : Txn) (c : Bool) (q : Option Pending) (place : ℕ) (l : Letter)
-    → first_of s.locks.pending txn ≡ q → IsApart s.locks.pending → ((p : Pending) → q ≡ Some p → MaySettle made s place c p) → HoldsTable made s
-    → HoldsTable (made ++ all_kept made (points_made place l (rows.settled (calls.dropped s txn) c q).out.points))
-    (rows.settled (calls.dropped s txn) c q).state
-settled-holds made s txn c None place l found apart may h =
-    subst (λ m. HoldsTable m (calls.dropped s txn)) (sym (append-nil made))
-    (same-at-own made s (calls.dropped s txn) refl refl (without-none s.locks.pending txn found) h)
-settled-holds made s txn true (Some p) place l found apart may h = applied-if made s txn p place (is_applied made p.txn) refl apart found (may p refl) h
-settled-holds made s txn false (Some p) place l found apart may h =
-    subst (λ m. HoldsTable m (calls.aborted (calls.dropped s txn) (Some p))) (sym (append-nil made))
-    (aborted-at-own made s txn p apart found ((may p refl).never refl) h)
-
-pub outcome-holds : (made : List Made) (s : BrickState) (txn : Txn) (c : Bool) (place : ℕ) (l : Letter) → IsApart s.locks.pending
-    → ((p : Pending) → first_of s.locks.pending txn ≡ Some p → MaySettle made s place c p) → HoldsTable made s
-    → HoldsTable (made ++ all_kept made (points_made place l (rows.outcome_row s txn c).out.points)) (rows.outcome_row s txn c).state
-outcome-holds made s txn c place l apart may h = settled-holds made s txn c (first_of s.locks.pending txn) place l refl apart may h

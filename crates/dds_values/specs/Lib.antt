@@ -1,3 +1,4 @@
 pub mod Law
 pub mod Values
 pub mod Below
+pub mod Held

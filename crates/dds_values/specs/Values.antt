@@ -1,5 +1,5 @@
--- What bricks hold, of a cluster's nodes and channels, the history and the books of two-phase commit: a record of named parts, of which no
--- law of runs is proved yet.
+-- What bricks hold, of a cluster's nodes and channels, the history and the books of two-phase commit: a record of named parts. Each event keeps
+-- them where the laws of leaves give what `Below` says.
 use Rattle.std.specs.Prelude.{ℕ, ◌≡◌, Bool, true, false, List, Option, Some, None, is_some}
 use Rattle.std.specs.FinMap.{get}
 use Rattle.std.specs.List.{AllByRecursion, find}

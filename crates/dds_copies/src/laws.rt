@@ -1,0 +1,17 @@
+//! The laws, as contracts of functions that do nothing.
+
+ghost use Rattle.dds_copies.specs.Ends.{JoinsEndWithTheTable};
+ghost use Rattle.dds_copies.specs.Law.{CopyingKeepsTheTable};
+
+/// Of each table, each state of a brick and each order: where a source holds the table under a join's name, it answers with the next part of
+/// the table's pairs; a part that comes keeps what was copied a beginning of them, and all of them behind the last one, and so does an
+/// operation on another key; and at its end the join's brick holds the table there.
+pub fn copying_keeps_the_table()
+    ensures { CopyingKeepsTheTable }
+{}
+
+/// In each world of each run, with stops, splits and joins, of each brick: where its open join has copied a table's pairs under the join's
+/// name, the brick holds the table there when it serves the leaf that the join made.
+pub fn joins_end_with_the_table()
+    ensures { JoinsEndWithTheTable }
+{}

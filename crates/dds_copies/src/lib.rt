@@ -1,0 +1,4 @@
+//! What a join copies.
+#![tactic(auto)]
+
+pub mod laws;

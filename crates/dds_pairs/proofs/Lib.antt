@@ -1,0 +1,14 @@
+pub mod Bindings
+pub mod Copies
+pub mod Parts
+pub mod Keeps
+pub mod Apart
+pub mod Names
+pub mod NameOrders
+pub mod NameTurns
+pub mod NameKeeps
+pub mod Grows
+pub mod Keys
+pub mod Binds
+pub mod Lies
+pub mod LieKeeps

@@ -1,0 +1,4 @@
+pub mod Names
+pub mod Lie
+pub mod Apart
+pub mod Copied
