@@ -34,7 +34,7 @@ pairs-live-if : (R : ℕ → ℕ → Type 0) (c : Bool) (x : ℕ) (xs : List ℕ
 pairs-live-if R true x xs h k = k
 pairs-live-if R false x xs h k = (h, k)
 
-pairs-live : (R : ℕ → ℕ → Type 0) (xs : List ℕ) (known : ℕ → Bool) → Pairwise R xs → Pairwise R (live xs known)
+pub pairs-live : (R : ℕ → ℕ → Type 0) (xs : List ℕ) (known : ℕ → Bool) → Pairwise R xs → Pairwise R (live xs known)
 pairs-live R [] known h = tt
 pairs-live R (x ∷ xs) known h = pairs-live-if R (known x) x (live xs known) (all-live (R x) xs known h.0) (pairs-live R xs known h.1)
 

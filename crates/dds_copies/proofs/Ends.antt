@@ -1,4 +1,4 @@
-use Rattle.std.proofs.Common.{◌≡◌, ℕ, Bool, true, false, Option, Some, None, List, refl, ap, subst}
+use Rattle.std.proofs.Common.{◌≡◌, ℕ, true, Option, Some, None, List, refl, subst}
 use Rattle.std.proofs.lemmas.Bool.{both_ways}
 use Rattle.std.specs.FinMap.{get}
 use Rattle.std.specs.Prelude.{is_some}

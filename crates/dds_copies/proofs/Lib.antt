@@ -1,8 +1,10 @@
 pub mod Tables
 pub mod Parts
 pub mod Sources
+pub mod Leased
 pub mod Points
 pub mod Joins
 pub mod Finishes
 pub mod Steps
 pub mod Ends
+pub mod SourceRuns

@@ -53,7 +53,7 @@ source-holds made s name h free serves key over =
     h.held key (serves key over) ∙ ap (λ q. bound_in (before made q) key) (none-holds s.locks.pending name key free over)
 
 -- its answer
-sent-if : (m : Map) (s : BrickState) (to : NodeNo) (number : ℕ) (o : OpenOrder) (name : Name) (place : Option ℕ) (c : Bool) → name ≡ o.name
+pub sent-if : (m : Map) (s : BrickState) (to : NodeNo) (number : ℕ) (o : OpenOrder) (name : Name) (place : Option ℕ) (c : Bool) → name ≡ o.name
     → place ≡ last_key None o.copied → HoldsUnder m o.name s
     → AllByRecursion (λ (p : NodeNo × Letter). TellsNext m o p.1)
     (if c then copy_part (pairs_after s.pairs name place) to number s else still s).out.letters

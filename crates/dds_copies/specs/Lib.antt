@@ -1,3 +1,4 @@
 pub mod Law
 pub mod Copies
 pub mod Ends
+pub mod Sources

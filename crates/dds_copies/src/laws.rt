@@ -2,6 +2,7 @@
 
 ghost use Rattle.dds_copies.specs.Ends.{JoinsEndWithTheTable};
 ghost use Rattle.dds_copies.specs.Law.{CopyingKeepsTheTable};
+ghost use Rattle.dds_copies.specs.Sources.{SourcesSendTheTable};
 
 /// Of each table, each state of a brick and each order: where a source holds the table under a join's name, it answers with the next part of
 /// the table's pairs; a part that comes keeps what was copied a beginning of them, and all of them behind the last one, and so does an
@@ -14,4 +15,10 @@ pub fn copying_keeps_the_table()
 /// name, the brick holds the table there when it serves the leaf that the join made.
 pub fn joins_end_with_the_table()
     ensures { JoinsEndWithTheTable }
+{}
+
+/// In each world of each run, with stops, splits and joins, of each brick that holds the table but for what is pending: at a CopyAsk for the
+/// pairs behind the last one that a join has copied it sends the next part of the table's pairs under the join's name, or nothing.
+pub fn sources_send_the_table()
+    ensures { SourcesSendTheTable }
 {}

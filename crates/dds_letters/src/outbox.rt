@@ -9,25 +9,20 @@ use std::alloc::Global;
 use std::collections::VecDeque;
 use std::marker::Model;
 
-/// Letters that wait, each with its receiver, in the order of sending. Most turns send one, so that the first takes no
-/// memory; where there is no first, there are no others.
+/// Letters that wait, each with its receiver, in the order of sending.
 #[derive(Drop)]
 pub struct Outbox {
-    first: Option<(NodeNo, Letter)>,
-    others: VecDeque<(NodeNo, Letter)>,
+    letters: VecDeque<(NodeNo, Letter)>,
 }
 
 impl Model for Outbox {
-    ghost use Rattle.std.specs.Prelude.{ℕ, List, None, [], ◌≡◌};
-    ghost use Rattle.std.specs.List.{cons_option};
+    ghost use Rattle.std.specs.Prelude.{ℕ, List};
     ghost use Rattle.dds_letters.specs.declared.letter.Letter.{Letter};
     ghost use Rattle.dds_base.specs.declared.number.NodeNo.{NodeNo};
 
     ghost Value = { List (NodeNo × Letter) };
 
-    ghost view = { λ a. cons_option a.first a.others.items };
-
-    ghost invariant = { λ a. a.first ≡ None → a.others.items ≡ [] };
+    ghost view = { λ a. a.letters.items };
 }
 
 impl Outbox {
@@ -36,8 +31,7 @@ impl Outbox {
         ensures { result ≡ [] }
     {
         Outbox {
-            first: None,
-            others: VecDeque::new(alloc),
+            letters: VecDeque::new(alloc),
         }
     }
 
@@ -45,11 +39,7 @@ impl Outbox {
         ensures ok { OnOk result (self.new ≡ self.old ++ (to, letter) ∷ []) }
         ensures err { OnErr result (self.new ≡ self.old) }
     {
-        if self.first.is_none() {
-            self.first = Some((to, letter));
-            return Ok(());
-        }
-        self.others.push_back((to, letter))?;
+        self.letters.push_back((to, letter))?;
         Ok(())
     }
 
@@ -58,22 +48,14 @@ impl Outbox {
         ensures first { result ≡ slice_get self.old 0 }
         ensures rest { self.new ≡ drop 1 self.old }
     {
-        let next = self.others.pop_front();
-        std::mem::replace(&mut self.first, next)
+        self.letters.pop_front()
     }
 
     /// Takes all letters of another outbox, behind its own.
     pub fn append(&mut self, mut other: Outbox) -> Result<(), Memory>
         ensures ok { OnOk result (self.new ≡ self.old ++ other) }
     {
-        if self.first.is_none() {
-            *self = other;
-            return Ok(());
-        }
-        if let Some(letter) = other.first.take() {
-            self.others.push_back(letter)?;
-        }
-        self.others.append(&mut other.others)?;
+        self.letters.append(&mut other.letters)?;
         Ok(())
     }
 }

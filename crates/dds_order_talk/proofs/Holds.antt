@@ -80,13 +80,13 @@ holds-leaf : {x : Name} {Own New : Tells} {p : OrderPhase} {leaf : Leaf} {v : Vi
 holds-leaf (sees e f) h = let r = granted-leaf e h in (r.0, f r.1)
 
 -- between live bricks
-both-live : {x : Name} {Own New : Tells} {a c : Bool} {v : View} {o : List Ask} {given : Bool} {b : List Say} → a ≡ true → c ≡ true
+pub both-live : {x : Name} {Own New : Tells} {a c : Bool} {v : View} {o : List Ask} {given : Bool} {b : List Say} → a ≡ true → c ≡ true
     → Talks x Own New a c v o given b → Talk x Own New v o given b
 both-live e f (live h) = h
 both-live e f (lost cut h) = cc
 both-live e f gone = cc
 
-name-self : (x : Name) → same_name x x ≡ true
+pub name-self : (x : Name) → same_name x x ≡ true
 name-self x = grind (arith, nat_tests)
 
 -- a live member that granted: it holds the lease, and has the order's leaf, or what the order made

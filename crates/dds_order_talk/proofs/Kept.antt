@@ -54,7 +54,7 @@ takes-granted me n true j ne h = refl
 takes-granted me n false true ne h = absurd (ne (same-number n me h))
 takes-granted me n false false ne h = let no : false ≡ true = h in cc
 
-begun-granted : (x : Seat) (o : OpenOrder) (made : Leaf) (nodes : List NodeNo) → MayBegin x o made nodes → (n : ℕ) → has nodes n ≡ true
+pub begun-granted : (x : Seat) (o : OpenOrder) (made : Leaf) (nodes : List NodeNo) → MayBegin x o made nodes → (n : ℕ) → has nodes n ≡ true
     → has o.granted n ≡ true
 begun-granted x o made nodes may n h =
     let s = may.may.state in

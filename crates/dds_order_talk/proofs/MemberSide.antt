@@ -32,7 +32,7 @@ use Rattle.dds_order_talk.specs.Table.Talks.{live, gone}
 -- The member's side of a conversation: what its deeds beside it, and its rows for leases and for pairs, make of the line.
 
 -- leaves under a lease stay
-overlap-self : (x : Name) → overlaps x x ≡ true
+pub overlap-self : (x : Name) → overlaps x x ≡ true
 overlap-self x = eq-eqb _ _ refl
 
 in-self : (x : Name) → In x x
@@ -55,11 +55,11 @@ new-stays : (x : Name) (a b : LeafMap) → LeafStays x a b → (made : Leaf) →
 new-stays x a b f made (joined e g) = joined e (f x made (in-self x) g)
 new-stays x a b f made (split e g k) = split e (f (low_half x) made (in-low x) g) (f (other_half (low_half x)) _ (in-high x) k)
 
-own-while : (x : Name) (a b : LeafMap) (given : Bool) → (given ≡ true → LeafStays x a b) → Stays (Own a x) (Own b x) given
+pub own-while : (x : Name) (a b : LeafMap) (given : Bool) → (given ≡ true → LeafStays x a b) → Stays (Own a x) (Own b x) given
 own-while x a b true f = own-stays x a b (f refl)
 own-while x a b false f = tt
 
-new-while : (x : Name) (a b : LeafMap) (given : Bool) → (given ≡ true → LeafStays x a b) → Stays (New a x) (New b x) given
+pub new-while : (x : Name) (a b : LeafMap) (given : Bool) → (given ≡ true → LeafStays x a b) → Stays (New a x) (New b x) given
 new-while x a b true f = new-stays x a b (f refl)
 new-while x a b false f = tt
 

@@ -73,11 +73,17 @@ pub data Takes (x : Name) : View → List Say → View → List Ask → Type 0 w
   tells : {leaf made : Leaf} → Takes x (Has leaf) [] (Due leaf made) (install made ∷ [])
   takes_installed : {leaf made : Leaf} → Takes x (Due leaf made) (installed ∷ []) (Done leaf made) []
   rests : (v : View) → Takes x v [] v []
+  releases_more : Takes x Off [] Off (release ∷ [])
 
 stale-append : {end w : List Ask} {given : Bool} (more : List Ask) → Stale end w given → Stale (end ++ more) (w ++ more) given
 stale-append more clear = clear
 stale-append more (gives_back k) = gives_back (stale-append more k)
 stale-append more (may_give k) = may_give (stale-append more k)
+
+stale-more : {w : List Ask} {given : Bool} → Stale [] w given → Stale [] (w ++ release ∷ []) given
+stale-more clear = gives_back clear
+stale-more (gives_back k) = gives_back (stale-more k)
+stale-more (may_give k) = may_give (stale-more k)
 
 fitting : {x : Name} {Own New : Tells} (what leaf : Leaf) → what ≡ leaf → Own leaf → Talk x Own New (Has what) [] true []
 fitting {x = x} {Own = Own} {New = New} what leaf e own = subst (λ l. Talk x Own New (Has l) [] true []) (sym e) (has own)
@@ -97,6 +103,7 @@ takes copied_all (heard own) = told own
 takes tells (has own) = told own
 takes takes_installed (said_so new) = done new
 takes (rests v) h = rw append-nil h
+takes releases_more (off k) = off (stale-more k)
 
 -- An order ends: its lease is one of an order that has ended, and a release comes behind it
 abbrev pub ended : Ask → Ask
@@ -115,6 +122,12 @@ pub data Ends : View → List Say → Type 0 where
   drops : {leaf : Leaf} → Ends (Has leaf) []
   drops_copied : {leaf : Leaf} → Ends (Heard leaf) []
   finishes : {leaf made : Leaf} → Ends (Done leaf made) []
+  asked_not : Ends Off []
+
+stale-of : {w : List Ask} {given : Bool} → Stale [] w given → Stale [] (map ended w) given
+stale-of clear = clear
+stale-of (gives_back k) = gives_back (stale-of k)
+stale-of (may_give k) = may_give (stale-of k)
 
 stale-ended : {l : Wanted} {w : List Ask} {given : Bool} → Stale (lease l ∷ []) w given → Stale [] (map ended w ++ release ∷ []) given
 stale-ended clear = may_give (gives_back clear)
@@ -133,6 +146,7 @@ ends b drops_first (first own) = off (gives_back clear)
 ends b drops (has own) = off (gives_back clear)
 ends b drops_copied (heard own) = off (gives_back clear)
 ends b finishes (done new) = off (gives_back clear)
+ends b asked_not (off k) = off (stale-more (stale-of k))
 
 -- no letter to copy or to install is on its way
 abbrev pub IsPlain : List Ask → Type 0
@@ -159,6 +173,42 @@ ends-plain b drops_first (first own) = tt
 ends-plain b drops (has own) = tt
 ends-plain b drops_copied (heard own) = tt
 ends-plain b finishes (done new) = tt
+ends-plain b asked_not (off k) = stale-plain tt k
+
+-- of a member that wasn't asked nothing is said, and it is sent no release
+pub off-ends :
+    {x : Name} {Own New : Tells} {v : View} {o : List Ask} {given : Bool} {b : List Say} → v ≡ Off → Talk x Own New v o given b
+    → Talk x Own New Off (map ended o) given []
+off-ends e (off k) = off (stale-of k)
+off-ends e (asked q k) = cc
+off-ends e (said_yes own fits) = cc
+off-ends e said_no = cc
+off-ends e (first own) = cc
+off-ends e (has own) = cc
+off-ends e (copies own) = cc
+off-ends e (copied own) = cc
+off-ends e (dropped own) = cc
+off-ends e (heard own) = cc
+off-ends e (told own) = cc
+off-ends e (said_so new) = cc
+off-ends e (done new) = cc
+
+off-stays :
+    {x : Name} {Own New : Tells} {v : View} {o : List Ask} {given : Bool} {b : List Say} → v ≡ Off → Talk x Own New v o given b
+    → Talk x Own New Off o given []
+off-stays e (off k) = off k
+off-stays e (asked q k) = cc
+off-stays e (said_yes own fits) = cc
+off-stays e said_no = cc
+off-stays e (first own) = cc
+off-stays e (has own) = cc
+off-stays e (copies own) = cc
+off-stays e (copied own) = cc
+off-stays e (dropped own) = cc
+off-stays e (heard own) = cc
+off-stays e (told own) = cc
+off-stays e (said_so new) = cc
+off-stays e (done new) = cc
 
 -- What the member does beside the conversation: while it has the lease given, its leaf stays what the line says
 abbrev pub Stays : Tells → Tells → Bool → Type 0
@@ -203,6 +253,27 @@ pub brick-ends :
 brick-ends b m (live h) = live (ends b m h)
 brick-ends {x = x} {s = s} b m (lost {v = v} {out = out} {gave = gave} cut h) =
     lost [] (ends (b ++ cut) m (subst (λ r. Talk x (λ l. Unit {0}) (λ l. Unit {0}) v out gave r) (append_assoc s b cut) h))
+
+pub brick-silent :
+    {x : Name} {Own New : Tells} {lives : Bool} {v : View} {o : List Ask} {given : Bool} {b : List Say} → v ≡ Off
+    → Talks x Own New true lives v o given b → Talks x Own New true lives Off o given []
+brick-silent e (live h) = live (off-stays e h)
+brick-silent e (lost cut h) = lost [] (off-stays e h)
+
+pub brick-unasked :
+    {x : Name} {Own New : Tells} {lives : Bool} {v : View} {o : List Ask} {given : Bool} {b : List Say} → v ≡ Off
+    → Talks x Own New true lives v o given b → Talks x Own New true lives Off (map ended o) given []
+brick-unasked e (live h) = live (off-ends e h)
+brick-unasked e (lost cut h) = lost [] (off-ends e h)
+
+-- where a live member's line has none of an order's letters to copy or to install, other names may be asked in other words
+pub brick-plain :
+    {x y : Name} {Own New : Tells} {Owns News : Tells} {lives : Bool} {v : View} {s : List Say} {o p r : List Ask} {given also : Bool} {w : View}
+    {c : List Say} (b : List Say) → Ends v s → (IsPlain o → r ≡ p) → Talks x Own New true lives v o given (s ++ b)
+    → Talks y Owns News true lives w p also c → Talks y Owns News true lives w r also c
+brick-plain {y = y} {Owns = Owns} {News = News} {also = also} {w = w} {c = c} b m f (live h) (live k) =
+    live (subst (λ q. Talk y Owns News w q also c) (sym (f (ends-plain b m h))) k)
+brick-plain b m f (lost cut h) (lost left k) = lost left k
 
 any-leaves :
     {x : Name} {Own New : Tells} {v : View} {o : List Ask} {given : Bool} {b : List Say} → Talk x Own New v o given b

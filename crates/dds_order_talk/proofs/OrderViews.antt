@@ -27,12 +27,12 @@ abbrev pub by : {X : Type 0} → ℕ → ℕ → X → List X
 by from m a = if from == m then a ∷ [] else []
 
 -- lists
-same-has : (a b : Bool) → (a ≡ true → b ≡ true) → (b ≡ true → a ≡ true) → a ≡ b
+pub same-has : (a b : Bool) → (a ≡ true → b ≡ true) → (b ≡ true → a ≡ true) → a ≡ b
 same-has true b f g = sym (f refl)
 same-has false true f g = g refl
 same-has false false f g = refl
 
-without-other : (ns : List ℕ) (from m : ℕ) → (m ≡ from → ⊥) → has (without ns from) m ≡ has ns m
+pub without-other : (ns : List ℕ) (from m : ℕ) → (m ≡ from → ⊥) → has (without ns from) m ≡ has ns m
 without-other ns from m ne =
     same-has (has (without ns from) m) (has ns m) (λ h. (in-without ns from m h).1)
     (λ h. has-kept (λ k. not (k == from)) ns m (ap not (ne_eqb m from ne)) h)
@@ -52,14 +52,14 @@ append-it ns from = has-append ns (from ∷ []) from ∙ ap (λ c. has ns from |
     or-yes true = refl
     or-yes false = refl
 
-by-it : {X : Type 0} (m : ℕ) (a : X) → by m m a ≡ a ∷ []
+pub by-it : {X : Type 0} (m : ℕ) (a : X) → by m m a ≡ a ∷ []
 by-it m a = ap (λ c. if c then a ∷ [] else []) (eq-eqb m m refl)
 
-by-other : {X : Type 0} (from m : ℕ) (a : X) → (m ≡ from → ⊥) → by from m a ≡ []
+pub by-other : {X : Type 0} (from m : ℕ) (a : X) → (m ≡ from → ⊥) → by from m a ≡ []
 by-other from m a ne = ap (λ c. if c then a ∷ [] else []) (ne_eqb from m (λ e. ne (sym e)))
 
 -- a view that stays is no move
-stays-as : (x : Name) (v w : View) (s : List Say) (y : List Ask) → w ≡ v → s ≡ [] → y ≡ [] → Takes x v s w y
+pub stays-as : (x : Name) (v w : View) (s : List Say) (y : List Ask) → w ≡ v → s ≡ [] → y ≡ [] → Takes x v s w y
 stays-as x v w s y e f g =
     subst (λ u. Takes x v s u y) (sym e) (subst (λ t. Takes x v t v y) (sym f) (subst (λ z. Takes x v [] v z) (sym g) (still v)))
 

@@ -89,29 +89,33 @@ none-said x (l ∷ ls) = ap (λ ys. ys ++ says None x ls) (said x l) ∙ none-sa
     said x other = refl
 
 -- an order begins: no letter that is on its way has its number
-abbrev pub IsNotOf : ℕ → Letter → Type 0
-IsNotOf number l = ((n : ℕ) → asked_of l ≡ Some n → (number == n) ≡ false) × ((n : ℕ) → said_of l ≡ Some n → (number == n) ≡ false)
+abbrev pub IsNotAsked : ℕ → Letter → Type 0
+IsNotAsked number l = (n : ℕ) → asked_of l ≡ Some n → (number == n) ≡ false
 
-new-ask : (p : OpenOrder) (x : Name) (l : Letter) → IsNotOf p.number l → (ask_of (Some p) x l ≡ ask_of None x l) × (say_of (Some p) x l ≡ [])
-new-ask p x (letter.Lease number what) h = (ap (λ b. lease_asks (b && same_name p.name x) x what) (h.0 number refl), refl)
-new-ask p x (letter.Release number name) h = (refl, refl)
-new-ask p x (letter.CopyAsk number name key) h = (ap (λ b. work_asks b (same_name p.name x) (copy key)) (h.0 number refl), refl)
-new-ask p x (letter.Install number leaf) h = (ap (λ b. work_asks b (same_name p.name x) (install leaf)) (h.0 number refl), refl)
-new-ask p x (letter.Granted number leaf) h = (refl, ap (λ b. one (b && same_name p.name x) (granted leaf)) (h.1 number refl))
-new-ask p x (letter.LeaseRefused number why) h = (refl, ap (λ b. one (b && same_name p.name x) refused) (h.1 number refl))
-new-ask p x (letter.CopyPart number last pairs) h = (refl, ap (λ b. one (b && same_name p.name x) part) (h.1 number refl))
-new-ask p x (letter.Installed number name) h = (refl, ap (λ b. one (b && same_name p.name x) installed) (h.1 number refl))
-new-ask p x other h = (refl, refl)
+abbrev pub IsNotSaid : ℕ → Letter → Type 0
+IsNotSaid number l = (n : ℕ) → said_of l ≡ Some n → (number == n) ≡ false
 
-pub new-asks : (p : OpenOrder) (x : Name) (ls : List Letter) → AllByRecursion (IsNotOf p.number) ls
-    → (asks (Some p) x ls ≡ asks None x ls) × (says (Some p) x ls ≡ [])
-new-asks p x [] h = (refl, refl)
-new-asks p x (l ∷ ls) h =
-    let a = new-ask p x l h.0 in
-    let r = new-asks p x ls h.1 in (
-      ap (λ ys. ys ++ asks (Some p) x ls) a.0 ∙ ap (λ ys. ask_of None x l ++ ys) r.0,
-      ap (λ ys. ys ++ says (Some p) x ls) a.1 ∙ r.1,
-    )
+new-ask : (p : OpenOrder) (x : Name) (l : Letter) → IsNotAsked p.number l → ask_of (Some p) x l ≡ ask_of None x l
+new-ask p x (letter.Lease number what) h = ap (λ b. lease_asks (b && same_name p.name x) x what) (h number refl)
+new-ask p x (letter.Release number name) h = refl
+new-ask p x (letter.CopyAsk number name key) h = ap (λ b. work_asks b (same_name p.name x) (copy key)) (h number refl)
+new-ask p x (letter.Install number leaf) h = ap (λ b. work_asks b (same_name p.name x) (install leaf)) (h number refl)
+new-ask p x other h = refl
+
+new-say : (p : OpenOrder) (x : Name) (l : Letter) → IsNotSaid p.number l → say_of (Some p) x l ≡ []
+new-say p x (letter.Granted number leaf) h = ap (λ b. one (b && same_name p.name x) (granted leaf)) (h number refl)
+new-say p x (letter.LeaseRefused number why) h = ap (λ b. one (b && same_name p.name x) refused) (h number refl)
+new-say p x (letter.CopyPart number last pairs) h = ap (λ b. one (b && same_name p.name x) part) (h number refl)
+new-say p x (letter.Installed number name) h = ap (λ b. one (b && same_name p.name x) installed) (h number refl)
+new-say p x other h = refl
+
+pub new-asks : (p : OpenOrder) (x : Name) (ls : List Letter) → AllByRecursion (IsNotAsked p.number) ls → asks (Some p) x ls ≡ asks None x ls
+new-asks p x [] h = refl
+new-asks p x (l ∷ ls) h = ap (λ ys. ys ++ asks (Some p) x ls) (new-ask p x l h.0) ∙ ap (λ ys. ask_of None x l ++ ys) (new-asks p x ls h.1)
+
+pub new-says : (p : OpenOrder) (x : Name) (ls : List Letter) → AllByRecursion (IsNotSaid p.number) ls → says (Some p) x ls ≡ []
+new-says p x [] h = refl
+new-says p x (l ∷ ls) h = ap (λ ys. ys ++ says (Some p) x ls) (new-say p x l h.0) ∙ new-says p x ls h.1
 
 -- an order ends: of its name, what it asked for is of an order that has ended
 abbrev pub IsLeaseOf : OpenOrder → Letter → Type 0

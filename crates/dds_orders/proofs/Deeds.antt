@@ -11,6 +11,7 @@ use Rattle.dds_base.specs.Place.{last_key}
 use Rattle.dds_base.specs.declared.leaf.Leaf.{Leaf}
 use Rattle.dds_base.specs.declared.number.NodeNo.{NodeNo}
 use Rattle.dds_base.specs.declared.pending.Pending.{Pending}
+use Rattle.dds_brick_rows.specs.Refusal.{is_join}
 use Rattle.dds_brick_rows.specs.Take.{replaced}
 use Rattle.dds_law_own.proofs.Changes.{MayFix, MayMake, MayPend, MayTake, Own, kept_leases, own, served}
 use Rattle.dds_letters.specs.declared.letter.Letter.{Letter}
@@ -170,48 +171,121 @@ pub data Deed (x : Seat) : List (NodeNo × Letter) → Seat → Type 0 where
       → Deed x (to_each (unknown o.granted x.own.known) (letter.Release o.number o.name))
       (record x { own = record x.own { leaves = served x.own.leaves o made o.task; order = None; leases = kept_leases x.own o } })
 
+-- Within a turn an order may owe something: the order that the brick was told is to open or to be answered; with the first grant of a
+-- join, which was heard, its leaf is to be fixed, or it ends; of pairs that were heard more are to be asked for, or the leaf is made
+pub data Stage : Type 0 where
+  told_order : Stage
+  nothing_owed : Stage
+  leaf_owed : NodeNo → Leaf → Stage
+  part_owed : Stage
+
+-- what a grant makes owed by an order with this leaf, or none
+abbrev pub owed_at : Option Leaf → NodeNo → Leaf → Stage
+owed_at None from leaf = leaf_owed from leaf
+owed_at (Some fixed) from leaf = nothing_owed
+
+-- where nothing is done for the order: the order that was told is refused, or the order has no leaf, though it copies, or splits
+pub data Leaves (x : Seat) (a b : Stage) : Type 0 where
+  stays : a ≡ b → Leaves x a b
+  refuses : a ≡ told_order → b ≡ nothing_owed → Leaves x a b
+  copies_none : (o : OpenOrder) → x.own.order ≡ Some o → o.leaf ≡ None → a ≡ part_owed → b ≡ nothing_owed → Leaves x a b
+  splits_none : (o : OpenOrder) → x.own.order ≡ Some o → o.leaf ≡ None → is_join o.task ≡ false → b ≡ nothing_owed → Leaves x a b
+
+-- nobody that may live is copied from
+abbrev pub IsUnsourced : Seat → OpenOrder → Type 0
+IsUnsourced x o = (n : NodeNo) → o.phase ≡ Copying n → has_node x.own.known n ≡ true
+
+-- a leaf is made once all leases are there, or with the last pairs
+pub data MakesAt (o : OpenOrder) (a : Stage) : Type 0 where
+  by_leases : order.is_leasing o.phase ≡ true → a ≡ nothing_owed → MakesAt o a
+  by_pairs : (source : NodeNo) → o.phase ≡ Copying source → a ≡ part_owed → MakesAt o a
+
+pub record EndsAt (x : Seat) (o : OpenOrder) (b : Stage) : Type 0 where
+  pub before : order.is_installing o.phase ≡ false
+  pub unsourced : IsUnsourced x o
+  pub next : b ≡ nothing_owed
+
+-- the stage before and after a deed
+abbrev pub Staged : {x y : Seat} {ls : List (NodeNo × Letter)} → Stage → Stage → Deed x ls y → Type 0
+Staged {x = x} a b (says ls others) = Leaves x a b
+Staged a b (takes mine leaf may) = (a ≡ nothing_owed) × (b ≡ nothing_owed)
+Staged a b (pends p may) = (a ≡ nothing_owed) × (b ≡ nothing_owed)
+Staged a b (drops txn) = (a ≡ nothing_owed) × (b ≡ nothing_owed)
+Staged a b (joins name via may) = (a ≡ told_order) × (b ≡ nothing_owed)
+Staged a b (splits leaf may) = (a ≡ told_order) × (b ≡ nothing_owed)
+Staged a b (loses o y e known) = (a ≡ nothing_owed) × (b ≡ nothing_owed)
+Staged a b (fixes o from leaf e may) = (a ≡ leaf_owed from leaf) × (b ≡ nothing_owed)
+Staged {x = x} a b (copies o leaf source e may) = (a ≡ nothing_owed) × (b ≡ nothing_owed) × IsUnsourced x o
+Staged a b (asks_more o source e phase) = (a ≡ part_owed) × (b ≡ nothing_owed)
+Staged a b (makes o made nodes e may) = MakesAt o a × (b ≡ nothing_owed)
+Staged {x = x} a b (closes o e) = EndsAt x o b
+Staged a b (serves o made e phase) = (a ≡ nothing_owed) × (b ≡ nothing_owed) × (is_none_left o.waiting ≡ true)
+
 -- one deed after another, with all letters
 pub data Path : Seat → List (NodeNo × Letter) → Seat → Type 0 where
   over : (x : Seat) → Path x [] x
   step : (x y z : Seat) (ls ms : List (NodeNo × Letter)) → Deed x ls y → Path y ms z → Path x (ls ++ ms) z
 
-pub one : {x y : Seat} {ls : List (NodeNo × Letter)} → Deed x ls y → Path x ls y
-one {x = x} {y = y} {ls = ls} d = subst (λ ms. Path x ms y) (append-nil ls) (step x y y ls [] d (over y))
+-- and with the stages
+pub data Trip : Stage → Seat → List (NodeNo × Letter) → Stage → Seat → Type 0 where
+  arrives : (a : Stage) (x : Seat) → Trip a x [] a x
+  does_next :
+      (a b c : Stage) (x y z : Seat) (ls ms : List (NodeNo × Letter)) (d : Deed x ls y) → Staged a b d → Trip b y ms c z → Trip a x (ls ++ ms) c z
 
-pub through : {x y z : Seat} {ls ms : List (NodeNo × Letter)} → Path x ls y → Path y ms z → Path x (ls ++ ms) z
-through (over _) w = w
-through {z = z} {ms = ms} (step x y _ ls ks d v) w =
-    subst (λ js. Path x js z) (sym (append_assoc ls ks ms)) (step x y z ls (ks ++ ms) d (through v w))
+pub path-of : {a b : Stage} {x y : Seat} {ls : List (NodeNo × Letter)} → Trip a x ls b y → Path x ls y
+path-of (arrives _ x) = over x
+path-of (does_next a b c x y z ls ms d q w) = step x y z ls ms d (path-of w)
+
+pub one : {a b : Stage} {x y : Seat} {ls : List (NodeNo × Letter)} (d : Deed x ls y) → Staged a b d → Trip a x ls b y
+one {a = a} {b = b} {x = x} {y = y} {ls = ls} d q =
+    subst (λ ms. Trip a x ms b y) (append-nil ls) (does_next a b b x y y ls [] d q (arrives b y))
+
+pub through : {a b c : Stage} {x y z : Seat} {ls ms : List (NodeNo × Letter)} → Trip a x ls b y → Trip b y ms c z → Trip a x (ls ++ ms) c z
+through (arrives _ _) w = w
+through {a = a} {c = c} {z = z} {ms = ms} (does_next _ b e x y _ ls ks d q v) w =
+    subst (λ js. Trip a x js c z) (sym (append_assoc ls ks ms)) (does_next a b c x y z ls (ks ++ ms) d q (through v w))
 
 -- a turn makes such deeds
-pub record Goes (x : Seat) (t : BrickTurn) : Type 0 where
+pub record GoesFrom (a : Stage) (x : Seat) (t : BrickTurn) : Type 0 where
+  pub trip : Trip a x t.out.letters nothing_owed (seat t.state)
   pub path : Path x t.out.letters (seat t.state)
 
--- a turn that sends letters that aren't of orders, and changes nothing of this
-pub plain : {x : Seat} (t : BrickTurn) → seat t.state ≡ x → AreOthers t.out.letters → Goes x t
-plain {x = x} t e h = record { path = subst (Path x t.out.letters) (sym e) (one (says t.out.letters h)) }
+abbrev pub Goes : Seat → BrickTurn → Type 0
+Goes x t = GoesFrom nothing_owed x t
 
-pub does : {x : Seat} (t : BrickTurn) → Deed x t.out.letters (seat t.state) → Goes x t
-does t d = record { path = one d }
+pub goes : {a : Stage} {x : Seat} (t : BrickTurn) → Trip a x t.out.letters nothing_owed (seat t.state) → GoesFrom a x t
+goes t w = record { trip = w; path = path-of w }
+
+-- a turn that sends letters that aren't of orders, and changes nothing of this
+pub leaves : {a : Stage} {x : Seat} (t : BrickTurn) → seat t.state ≡ x → AreOthers t.out.letters → Leaves x a nothing_owed → GoesFrom a x t
+leaves {a = a} {x = x} t e h q = goes t (subst (Trip a x t.out.letters nothing_owed) (sym e) (one (says t.out.letters h) q))
+
+pub plain : {x : Seat} (t : BrickTurn) → seat t.state ≡ x → AreOthers t.out.letters → Goes x t
+plain t e h = leaves t e h (stays refl)
+
+pub does : {a : Stage} {x : Seat} (t : BrickTurn) (d : Deed x t.out.letters (seat t.state)) → Staged a nothing_owed d → GoesFrom a x t
+does t d q = goes t (one d q)
 
 -- deeds without letters, and then a turn
-pub after : {x y : Seat} (t : BrickTurn) → Path x [] y → Goes y t → Goes x t
-after t w g = record { path = through w g.path }
+pub after : {a b : Stage} {x y : Seat} (t : BrickTurn) → Trip a x [] b y → GoesFrom b y t → GoesFrom a x t
+after t w g = goes t (through w g.trip)
 
-pub goes-then : {x : Seat} (t : BrickTurn) (row : BrickState → BrickTurn) → Goes x t → Goes (seat t.state) (row t.state) → Goes x (and_then t row)
-goes-then t row g h = record { path = through g.path h.path }
+pub goes-then : {a : Stage} {x : Seat} (t : BrickTurn) (row : BrickState → BrickTurn) → GoesFrom a x t → Goes (seat t.state) (row t.state)
+    → GoesFrom a x (and_then t row)
+goes-then t row g h = goes (and_then t row) (through g.trip h.trip)
 
-pub goes-if : {x : Seat} (c : Bool) {t u : BrickTurn} → Goes x t → Goes x u → Goes x (if c then t else u)
+pub goes-if : {a : Stage} {x : Seat} (c : Bool) {t u : BrickTurn} → GoesFrom a x t → GoesFrom a x u → GoesFrom a x (if c then t else u)
 goes-if true g h = g
 goes-if false g h = h
 
-pub goes-when : {x : Seat} (c : Bool) {t u : BrickTurn} → (c ≡ true → Goes x t) → (c ≡ false → Goes x u) → Goes x (if c then t else u)
+pub goes-when : {a : Stage} {x : Seat} (c : Bool) {t u : BrickTurn} → (c ≡ true → GoesFrom a x t) → (c ≡ false → GoesFrom a x u)
+    → GoesFrom a x (if c then t else u)
 goes-when true f g = f refl
 goes-when false f g = g refl
 
 -- a turn whose state is as another one to orders
-pub goes-to : {x : Seat} (y : Seat) (t : BrickTurn) → seat t.state ≡ y → AreOthers t.out.letters → Path x [] y → Goes x t
-goes-to {x = x} y t e h w = record { path = through w (plain t e h).path }
+pub goes-to : {x : Seat} (y : Seat) (t : BrickTurn) → seat t.state ≡ y → AreOthers t.out.letters → Trip nothing_owed x [] nothing_owed y → Goes x t
+goes-to {x = x} y t e h w = goes t (through w (plain t e h).trip)
 
 pub others-each : (nodes : List NodeNo) (l : Letter) → is_of_orders l ≡ false → AreOthers (to_each nodes l)
 others-each [] l h = tt

@@ -111,7 +111,7 @@ pub record In (n q : Name) : Type 0 where
   pub meets : overlaps q n ≡ true
   pub deep : n.depth ≤ q.depth
 
-in-apart : (n q k : Name) → In n q → overlaps n k ≡ false → overlaps q k ≡ false
+pub in-apart : (n q k : Name) → In n q → overlaps n k ≡ false → overlaps q k ≡ false
 in-apart n q k i e = not-either (overlaps n k) (overlaps q k) e (meets-over q n k i.deep i.meets)
 
 -- leases of others
@@ -240,7 +240,7 @@ pub record IsInstall (from j : ℕ) (l : Letter) : Type 0 where
   pub is : l ≡ letter.Install number made
 
 -- beside a lease, the others have nothing in common with it
-clear-by : (ls : List Lease) (n : Name) (j : ℕ) → Pairwise Apart ls → lease.is_given ls n j ≡ true
+pub clear-by : (ls : List Lease) (n : Name) (j : ℕ) → Pairwise Apart ls → lease.is_given ls n j ≡ true
     → AllByRecursion (λ (l : Lease). (lease.is_lease n j l ≡ true) ⊎ Clear n l) ls
 clear-by [] n j a g = tt
 clear-by (l ∷ ls) n j a g = elim (cases_Bool (lease.is_lease n j l)) [

@@ -25,7 +25,7 @@ use Rattle.dds_states.specs.declared.brick_state.Deferred.{Deferred}
 use Rattle.dds_states.specs.declared.brick_state.Question.{Question}
 use Rattle.dds_states.specs.declared.brick_state.Question.TheVariants.{Help, Query}
 use Rattle.dds_states.specs.declared.brick_state.Resolving.{Resolving}
-use Rattle.dds_orders.proofs.Deeds.{Goes, Path, Seat, after, drops, goes-if, goes-then, goes-to, one, others-each, over, pends}
+use Rattle.dds_orders.proofs.Deeds.{Goes, Seat, Trip, after, arrives, drops, goes-if, goes-then, goes-to, nothing_owed, one, others-each, pends}
 use Rattle.dds_orders.proofs.Deeds.{plain, seat}
 use Rattle.dds_orders.proofs.Deeds.{takes as taken}
 
@@ -44,7 +44,8 @@ voted : (s u : BrickState) (from : NodeNo) (p : Pending) (name : Name) (stamp : 
     → update_denial s p.op name stamp ≡ d → Goes (seat s) (calls.voted u from p d)
 voted s u from p name stamp None is e =
     goes-to (record (seat s) { own = record (own s) { pending = s.locks.pending ++ p ∷ [] } }) _
-    (ap (λ (x : Seat). record x { own = record x.own { pending = x.own.pending ++ p ∷ [] } }) is) (refl, tt) (one (pends p (may-pend s p name stamp e)))
+    (ap (λ (x : Seat). record x { own = record x.own { pending = x.own.pending ++ p ∷ [] } }) is) (refl, tt)
+    (one (pends p (may-pend s p name stamp e)) (refl, refl))
 voted s u from p name stamp (Some why) is e = plain _ is (refl, tt)
 
 pub prepare_row : (s : BrickState) (from : NodeNo) (p : Pending) (below : ℕ) (name : Name) (stamp : StampOf)
@@ -56,14 +57,14 @@ found u from None = plain _ refl tt
 found u from (Some p) = plain _ refl (refl, tt)
 
 pub commit_row : (s : BrickState) (from : NodeNo) (txn : Txn) → Goes (seat s) (calls.commit_row s from txn)
-commit_row s from txn = after _ (one (drops txn)) (found (calls.dropped s txn) from _)
+commit_row s from txn = after _ (one (drops txn) (refl, refl)) (found (calls.dropped s txn) from _)
 
 aborted : (u : BrickState) (p : Option Pending) → seat (calls.aborted u p) ≡ seat u
 aborted u None = refl
 aborted u (Some p) = refl
 
 pub abort_row : (s : BrickState) (from : NodeNo) (txn : Txn) → Goes (seat s) (calls.abort_row s from txn)
-abort_row s from txn = goes-to (seat (calls.dropped s txn)) _ (aborted (calls.dropped s txn) _) (refl, tt) (one (drops txn))
+abort_row s from txn = goes-to (seat (calls.dropped s txn)) _ (aborted (calls.dropped s txn) _) (refl, tt) (one (drops txn) (refl, refl))
 
 -- resolving
 settled : (u : BrickState) (commit : Bool) (p : Option Pending) → Goes (seat u) (resolution.settled u commit p)
@@ -72,7 +73,7 @@ settled u true (Some p) = plain _ refl tt
 settled u false (Some p) = plain _ refl tt
 
 pub outcome_row : (s : BrickState) (txn : Txn) (commit : Bool) → Goes (seat s) (resolution.outcome_row s txn commit)
-outcome_row s txn commit = after _ (one (drops txn)) (settled (calls.dropped s txn) commit _)
+outcome_row s txn commit = after _ (one (drops txn) (refl, refl)) (settled (calls.dropped s txn) commit _)
 
 decides : (s : BrickState) (r : Resolving) → Goes (seat s) (resolution.decides s r)
 decides s r =
@@ -140,15 +141,33 @@ pub pending_part : (s : BrickState) (y : NodeNo) → Goes (seat s) (notices.pend
 pending_part s y = pendings_go s y (notices.numbered s.locks.pending)
 
 -- leaves that are told
-took-if : {x : Seat} (c : Bool) (s u : BrickState) → (c ≡ true → Path x [] (seat u)) → Path x [] (seat s) → Path x [] (seat (if c then u else s))
+-- what doesn't change what an order owes
+abbrev pub Idle : Seat → Seat → Type 0
+Idle x y = Trip nothing_owed x [] nothing_owed y
+
+took-if : {x : Seat} (c : Bool) (s u : BrickState) → (c ≡ true → Idle x (seat u)) → Idle x (seat s) → Idle x (seat (if c then u else s))
 took-if true s u f w = f refl
 took-if false s u f w = w
 
-taking : (s : BrickState) (leaf : Leaf) (mine : Option Leaf) → own_leaf s.leaves leaf.name ≡ mine → Path (seat s) [] (seat (takes.take_over s leaf mine))
-taking s leaf None e = over (seat s)
+taking : (s : BrickState) (leaf : Leaf) (mine : Option Leaf) → own_leaf s.leaves leaf.name ≡ mine → Idle (seat s) (seat (takes.take_over s leaf mine))
+taking s leaf None e = arrives nothing_owed (seat s)
 taking s leaf (Some mine) e =
     took-if (may_take s.number mine leaf (has_node s.known) (takes.is_free s mine.name)) s
-    (record s { leaves = takes.replaced s.leaves mine leaf }) (λ f. one (taken mine leaf (may-take s mine leaf e f))) (over (seat s))
+    (record s { leaves = takes.replaced s.leaves mine leaf }) (λ f. one (taken mine leaf (may-take s mine leaf e f)) (refl, refl))
+    (arrives nothing_owed (seat s))
 
-pub take : (s : BrickState) (leaf : Leaf) → Path (seat s) [] (seat (takes.take s leaf))
+pub take : (s : BrickState) (leaf : Leaf) → Idle (seat s) (seat (takes.take s leaf))
 take s leaf = taking s leaf (own_leaf s.leaves leaf.name) refl
+
+order-if : (c : Bool) (s u : BrickState) → u.order ≡ s.order → (if c then u else s).order ≡ s.order
+order-if true s u e = e
+order-if false s u e = refl
+
+taken-order : (s : BrickState) (leaf : Leaf) (mine : Option Leaf) → (takes.take_over s leaf mine).order ≡ s.order
+taken-order s leaf None = refl
+taken-order s leaf (Some mine) =
+    order-if (may_take s.number mine leaf (has_node s.known) (takes.is_free s mine.name)) s
+    (record s { leaves = takes.replaced s.leaves mine leaf }) refl
+
+pub take-order : (s : BrickState) (leaf : Leaf) → (takes.take s leaf).order ≡ s.order
+take-order s leaf = taken-order s leaf (own_leaf s.leaves leaf.name)

@@ -35,17 +35,19 @@ use Rattle.dds_maps.specs.Own.{own_leaf}
 use Rattle.dds_order_rows.specs.Orders as orders
 use Rattle.dds_order_rows.specs.OwnOrder as order
 use Rattle.dds_states.specs.Leaf.{leaf_for}
-use Rattle.dds_states.specs.Turn.{BrickTurn, when, to_each, unknown, without}
+use Rattle.dds_states.specs.Turn.{BrickTurn, still, when, to_each, unknown, without}
 use Rattle.dds_states.specs.declared.brick_state.BrickState.{BrickState}
 use Rattle.dds_states.specs.declared.brick_state.OpenOrder.{OpenOrder}
 use Rattle.dds_states.specs.declared.brick_state.OrderPhase.{OrderPhase}
 use Rattle.dds_states.specs.declared.brick_state.OrderPhase.TheVariants.{Copying, Installing, Leasing}
-use Rattle.dds_orders.proofs.Deeds.{Goes, Path, after, goes-if, Seat, goes-then, is_of_orders, over, plain, seat, through}
+use Rattle.dds_orders.proofs.Deeds.{Goes, GoesFrom, Path, Seat, Stage, Trip, after, arrives, goes, goes-then, goes-when, is_of_orders, nothing_owed, over}
+use Rattle.dds_orders.proofs.Deeds.{owed_at, part_owed, path-of, plain, seat, through, told_order}
 use Rattle.dds_orders.proofs.Deeds.{wanted_name, wanted_stamp}
 use Rattle.dds_orders.proofs.Deeds.{with_order}
 use Rattle.dds_orders.proofs.OwnRows as own_rows
 use Rattle.dds_orders.proofs.OwnRows.{holding}
 use Rattle.dds_orders.proofs.Rows as rows
+use Rattle.dds_orders.proofs.Rows.{Idle}
 
 -- What a brick does at a letter, before other deeds: one constructor for each letter of orders that does something, and one for each
 -- that doesn't; a notice; and any other letter.
@@ -97,6 +99,12 @@ pub data Hears (from : NodeNo) (x : Seat) : Letter → List (NodeNo × Letter) �
       (record x { own = record x.own { known = with_node x.own.known from; leases = lease.released_all x.own.leases from } })
   hears_other : (l : Letter) → is_of_orders l ≡ false → Hears from x l [] x
 
+-- what a letter that was heard makes owed
+abbrev pub owed : {from : NodeNo} {x y : Seat} {l : Letter} {ls : List (NodeNo × Letter)} → Hears from x l ls y → Stage
+owed {from = from} (grants number leaf o finds) = owed_at o.leaf from leaf
+owed (copies number last pairs o finds) = part_owed
+owed other = nothing_owed
+
 -- a turn at a letter: leaves may be taken first, then the letter is heard, then other deeds follow
 pub record Turns (from : NodeNo) (x : Seat) (l : Letter) (t : BrickTurn) : Type 0 where
   pub first : Seat
@@ -106,11 +114,15 @@ pub record Turns (from : NodeNo) (x : Seat) (l : Letter) (t : BrickTurn) : Type 
   pub takes : Path x [] first
   pub hears : Hears from first l answers next
   pub goes : Path next letters (seat t.state)
+  pub idle : Idle x first
+  pub first_order : first.own.order ≡ x.own.order
+  pub trip : Trip (owed hears) next letters nothing_owed (seat t.state)
   pub all : t.out.letters ≡ answers ++ letters
 
-turns : {from : NodeNo} {x y : Seat} {l : Letter} {ls : List (NodeNo × Letter)} (t : BrickTurn) → Hears from x l ls y → t.out.letters ≡ ls ++ []
-    → seat t.state ≡ y → Turns from x l t
-turns {x = x} {y = y} {ls = ls} t h e is =
+turns : {from : NodeNo} {x y : Seat} {l : Letter} {ls : List (NodeNo × Letter)} (t : BrickTurn) (h : Hears from x l ls y) → owed h ≡ nothing_owed
+    → t.out.letters ≡ ls ++ [] → seat t.state ≡ y → Turns from x l t
+turns {x = x} {y = y} {ls = ls} t h q e is =
+    let w = subst (λ a. Trip a y [] nothing_owed (seat t.state)) (sym q) (subst (Trip nothing_owed y [] nothing_owed) (sym is) (arrives nothing_owed y)) in
     record {
       first = x;
       next = y;
@@ -118,24 +130,42 @@ turns {x = x} {y = y} {ls = ls} t h e is =
       letters = [];
       takes = over x;
       hears = h;
-      goes = subst (Path y []) (sym is) (over y);
+      goes = path-of w;
+      idle = arrives nothing_owed x;
+      first_order = refl;
+      trip = w;
       all = e;
     }
 
-turns-on : {from : NodeNo} {x y : Seat} {l : Letter} (t : BrickTurn) → Hears from x l [] y → Goes y t → Turns from x l t
+turns-on : {from : NodeNo} {x y : Seat} {l : Letter} (t : BrickTurn) (h : Hears from x l [] y) → GoesFrom (owed h) y t → Turns from x l t
 turns-on {x = x} {y = y} t h g =
-    record { first = x; next = y; answers = []; letters = t.out.letters; takes = over x; hears = h; goes = g.path; all = refl }
+    record {
+      first = x;
+      next = y;
+      answers = [];
+      letters = t.out.letters;
+      takes = over x;
+      hears = h;
+      goes = g.path;
+      idle = arrives nothing_owed x;
+      first_order = refl;
+      trip = g.trip;
+      all = refl;
+    }
 
-taken-then : {from : NodeNo} {x y : Seat} {l : Letter} (t : BrickTurn) → Path x [] y → Turns from y l t → Turns from x l t
-taken-then t p h =
+taken-then : {from : NodeNo} {x y : Seat} {l : Letter} (t : BrickTurn) → Idle x y → y.own.order ≡ x.own.order → Turns from y l t → Turns from x l t
+taken-then t p e h =
     record {
       first = h.first;
       next = h.next;
       answers = h.answers;
       letters = h.letters;
-      takes = through p h.takes;
+      takes = path-of (through p h.idle);
       hears = h.hears;
       goes = h.goes;
+      idle = through p h.idle;
+      first_order = h.first_order ∙ e;
+      trip = h.trip;
       all = h.all;
     }
 
@@ -159,7 +189,7 @@ granting : (s : BrickState) (from : NodeNo) (number : ℕ) (what : Wanted) (leaf
     → is_found (wanted_stamp what) leaf ≡ true → IsFree (own s) (wanted_name what) → has_node s.known from ≡ false
     → Turns from (seat s) (letter.Lease number what) (orders.granted s from number (wanted_name what) leaf)
 granting s from number what None e f free u = cc
-granting s from number what (Some leaf) e f free u = turns _ (gives number what leaf e free f u) refl refl
+granting s from number what (Some leaf) e f free u = turns _ (gives number what leaf e free f u) refl refl refl
 
 answering : (s : BrickState) (from : NodeNo) (number : ℕ) (what : Wanted) (r : Option Refusal)
     → lease_refusal s (wanted_name what) (wanted_stamp what) ≡ r → has_node s.known from ≡ false
@@ -167,7 +197,7 @@ answering : (s : BrickState) (from : NodeNo) (number : ℕ) (what : Wanted) (r :
 answering s from number what None e u =
     granting s from number what (get s.leaves (wanted_name what)) refl (found-leaf s (wanted_name what) (wanted_stamp what) e)
     (free-lease s (wanted_name what) (wanted_stamp what) e) u
-answering s from number what (Some why) e u = turns _ (denies number what why) refl refl
+answering s from number what (Some why) e u = turns _ (denies number what why) refl refl refl
 
 lease_row : (s : BrickState) (from : NodeNo) (number : ℕ) (what : Wanted) → has_node s.known from ≡ false
     → Turns from (seat s) (letter.Lease number what) (orders.lease_row s from number what)
@@ -175,15 +205,16 @@ lease_row s from number (wanted.Name name) u = answering s from number (wanted.N
 lease_row s from number (wanted.Leaf leaf) u =
     let t = takes.take s leaf in
     let known : has_node t.known from ≡ false = ap (λ k. has_node k from) (take-known s leaf (own_leaf s.leaves leaf.name)) ∙ u in
-    taken-then _ (rows.take s leaf) (answering t from number (wanted.Leaf leaf) (lease_refusal t leaf.name (Some leaf.stamp)) refl known)
+    taken-then _ (rows.take s leaf) (rows.take-order s leaf) (answering t from number (wanted.Leaf leaf)
+    (lease_refusal t leaf.name (Some leaf.stamp)) refl known)
 
 copy_ask_row : (s : BrickState) (from : NodeNo) (number : ℕ) (name : Name) (place : Option ℕ)
     → Turns from (seat s) (letter.CopyAsk number name place) (orders.copy_ask_row s from number name place)
 copy_ask_row s from number name place =
     turns-when (lease.is_given s.locks.leases name from && is_some (get s.leaves name))
     (λ e. let p = and_parts (lease.is_given s.locks.leases name from) (is_some (get s.leaves name)) e in
-    turns _ (sends_part number name place _ _ p.0 p.1) refl refl)
-    (λ e. turns _ (sends_none number name place e) refl refl)
+    turns _ (sends_part number name place _ _ p.0 p.1) refl refl refl)
+    (λ e. turns _ (sends_none number name place e) refl refl refl)
 
 false-is : (c : Bool) → c ≡ false → c ≡ true → ⊥
 false-is c e f = let no : true ≡ false = sym f ∙ e in cc
@@ -195,13 +226,13 @@ installing : (s : BrickState) (from : NodeNo) (number : ℕ) (leaf : Leaf) (mine
     → is_some (lease_of s.locks.leases leaf.name from) ≡ true → has leaf.list s.number ≡ true
     → Turns from (seat s) (letter.Install number leaf) (orders.installed_over s from number leaf mine)
 installing s from number leaf None there e f =
-    turns _ (installs_not number leaf (λ m may. let no : Some m ≡ None = sym may.there ∙ there in cc)) refl refl
+    turns _ (installs_not number leaf (λ m may. let no : Some m ≡ None = sym may.there ∙ there in cc)) refl refl refl
 installing s from number leaf (Some mine) there e f =
     turns-when (is_some (successor mine leaf))
-    (λ g. turns _ (installs number leaf mine (record { there = there; leased = e; lists = f; comes = g })) refl refl)
+    (λ g. turns _ (installs number leaf mine (record { there = there; leased = e; lists = f; comes = g })) refl refl refl)
     (λ g. turns _ (installs_not number leaf (λ m may.
     let is : m ≡ mine = same-leaf (own_leaf s.leaves leaf.name) m mine may.there there in
-    false-is (is_some (successor mine leaf)) g (subst (λ (k : Leaf). is_some (successor k leaf) ≡ true) is may.comes))) refl refl)
+    false-is (is_some (successor mine leaf)) g (subst (λ (k : Leaf). is_some (successor k leaf) ≡ true) is may.comes))) refl refl refl)
 
 not-both : (a b : Bool) → (a && b) ≡ false → a ≡ true → b ≡ true → ⊥
 not-both true true h e f = cc
@@ -215,7 +246,7 @@ install_row s from number leaf =
     (λ e. let p = and_parts (is_some (lease_of s.locks.leases leaf.name from)) (has leaf.list s.number) e in
     installing s from number leaf (own_leaf s.leaves leaf.name) refl p.0 p.1)
     (λ e. turns _ (installs_not number leaf (λ m may. not-both (is_some (lease_of s.locks.leases leaf.name from)) (has leaf.list s.number) e may.leased
-    may.lists)) refl refl)
+    may.lists)) refl refl refl)
 
 -- a letter to the open order
 abbrev Owes : NodeNo → BrickState → Letter → (OpenOrder → Bool) → (BrickState → OpenOrder → BrickTurn) → ℕ → Type 0
@@ -235,10 +266,10 @@ with-order s number test row None e h f = cc
 with-order s number test row (Some o) e h f = f o (finding s number test (Some o) o e refl h)
 
 at-order : {from : NodeNo} {l : Letter} (s : BrickState) (number : ℕ) (test : OpenOrder → Bool) (row : BrickState → OpenOrder → BrickTurn)
-    → Owes from s l test row number → (order.is_at number test s.order ≡ false → Hears from (seat s) l [] (seat s))
+    → Owes from s l test row number → (order.is_at number test s.order ≡ false → Turns from (seat s) l (still s))
     → Turns from (seat s) l (order.at_order s number test row)
 at-order s number test row f g =
-    turns-when (order.is_at number test s.order) (λ h. with-order s number test row s.order refl h f) (λ h. turns _ (g h) refl refl)
+    turns-when (order.is_at number test s.order) (λ h. with-order s number test row s.order refl h f) g
 
 granted_row : (s : BrickState) (from : NodeNo) (number : ℕ) (leaf : Leaf)
     → Turns from (seat s) (letter.Granted number leaf) (order.granted_row s from number leaf)
@@ -246,14 +277,14 @@ granted_row s from number leaf =
     at-order s number (order.takes_grant s.number leaf) (λ t o. order.grants t (order.with_grant o from) from leaf o.task)
     (λ o f. turns-on _ (grants number leaf o f) (own_rows.granting (record s { order = None }) (order.with_grant o from) from leaf o.task refl f.passes
     (has-last o.granted from)))
-    (λ h. grants_not number leaf h)
+    (λ h. turns _ (grants_not number leaf h) refl refl refl)
 
 lease_refused_row : (s : BrickState) (from : NodeNo) (number : ℕ) (why : Refusal)
     → Turns from (seat s) (letter.LeaseRefused number why) (order.lease_refused_row s from number why)
 lease_refused_row s from number why =
     at-order s number (λ o. order.is_leasing o.phase) (λ t o. order.ends t o (answered.Refused (order.met_of why from)))
-    (λ o f. turns _ (is_refused number why o f) refl (own_rows.ended-seat (record s { order = None }) o (answered.Refused (order.met_of why from))))
-    (λ h. refused_not number why h)
+    (λ o f. turns _ (is_refused number why o f) refl refl (own_rows.ended-seat (record s { order = None }) o (answered.Refused (order.met_of why from))))
+    (λ h. turns _ (refused_not number why h) refl refl refl)
 
 pub source-is : (from : NodeNo) (p : OrderPhase) → order.is_source from p ≡ true → p ≡ Copying from
 source-is from Leasing h = cc
@@ -268,7 +299,7 @@ copy_part_row s from number last pairs =
     (λ o f. turns-on _ (copies number last pairs o f)
     (own_rows.copied_on (record s { order = None }) (record o { copied = o.copied ++ pairs }) from last
     (source-is from o.phase (and_parts (order.is_source from o.phase) (order.fits o pairs) f.passes).0)))
-    (λ h. copies_not number last pairs h)
+    (λ h. turns _ (copies_not number last pairs h) refl refl refl)
 
 installed_in : (s : BrickState) (o : OpenOrder) (phase : OrderPhase) → o.phase ≡ phase → order.is_installing phase ≡ true
     → Goes (holding s o) (order.installed_in s o phase)
@@ -282,21 +313,24 @@ installed_row s from number name =
     at-order s number (λ o. order.is_installing o.phase) (λ t o. order.installed_in t (record o { waiting = without o.waiting from }) o.phase)
     (λ o f. turns-on _ (is_installed number name o f)
     (installed_in (record s { order = None }) (record o { waiting = without o.waiting from }) o.phase refl f.passes))
-    (λ h. installed_not number name h)
+    (λ h. turns _ (installed_not number name h) refl refl refl)
 
 -- a notice
-with-some : (s : BrickState) (y : NodeNo) (q : Option OpenOrder) → s.order ≡ q → has_node s.known y ≡ true
+copied-known : (s : BrickState) (y n : NodeNo) (o : OpenOrder) → o.phase ≡ Copying n → has_node s.known y ≡ true → notices.concerns y o ≡ true
+    → has_node s.known n ≡ true
+copied-known s y n o e k c =
+    let same : (n == y) ≡ true = sym (ap (notices.concerns_in o y) e) ∙ c in ap (has_node s.known) (eqb-true n y same) ∙ k
+
+with-some : (s : BrickState) (y : NodeNo) (q : Option OpenOrder) → s.order ≡ q → has_node s.known y ≡ true → notices.concerns_some y q ≡ true
     → Goes (seat s) (order.with_order s (λ t o. notices.order_goes t o y o.phase) q)
-with-some s y None e k = plain _ refl tt
-with-some s y (Some o) e k =
-    record {
-      path = subst (λ x. Path x (notices.order_goes (record s { order = None }) o y o.phase).out.letters
-          (seat (notices.order_goes (record s { order = None }) o y o.phase).state))
-          (sym (ap (λ q. record (seat s) { own = record (own s) { order = q } }) e)) (own_rows.order_goes (record s { order = None }) o y o.phase refl k).path;
-    }
+with-some s y None e k c = plain _ refl tt
+with-some s y (Some o) e k c =
+    goes _ (subst (λ x. Trip nothing_owed x (notices.order_goes (record s { order = None }) o y o.phase).out.letters nothing_owed
+    (seat (notices.order_goes (record s { order = None }) o y o.phase).state)) (sym (ap (λ q. record (seat s) { own = record (own s) { order = q } }) e))
+    (own_rows.order_goes (record s { order = None }) o y o.phase refl k (λ n f. copied-known s y n o f k c)).trip)
 
 pub order_part : (s : BrickState) (y : NodeNo) → has_node s.known y ≡ true → Goes (seat s) (notices.order_part s y)
-order_part s y k = goes-if _ (with-some s y s.order refl k) (plain _ refl tt)
+order_part s y k = goes-when (notices.concerns_some y s.order) (λ c. with-some s y s.order refl k c) (λ c. plain _ refl tt)
 
 notice_row : (s : BrickState) (y : NodeNo) → y < 80 → (y ≡ s.number → ⊥) → Turns y (seat s) letter.Notice (notices.notice_row s y)
 notice_row s y below ne =
@@ -325,18 +359,18 @@ letter-turns s from (letter.Outcome txn commit) h = turns-on _ (hears_other _ re
 letter-turns s from (letter.Lease number what) h = lease_row s from number what h.unknown
 letter-turns s from (letter.Granted number leaf) h = granted_row s from number leaf
 letter-turns s from (letter.LeaseRefused number why) h = lease_refused_row s from number why
-letter-turns s from (letter.Release number name) h = turns _ (releases number name) refl refl
+letter-turns s from (letter.Release number name) h = turns _ (releases number name) refl refl refl
 letter-turns s from (letter.CopyAsk number name place) h = copy_ask_row s from number name place
 letter-turns s from (letter.CopyPart number last pairs) h = copy_part_row s from number last pairs
 letter-turns s from (letter.Install number leaf) h = install_row s from number leaf
 letter-turns s from (letter.Installed number name) h = installed_row s from number name
 letter-turns s from letter.Notice h = notice_row s from h.below (h.other refl)
-letter-turns s from (letter.Got txn a) h = turns _ (hears_other _ refl) refl refl
-letter-turns s from (letter.Vote txn vote) h = turns _ (hears_other _ refl) refl refl
-letter-turns s from (letter.Applied txn was) h = turns _ (hears_other _ refl) refl refl
-letter-turns s from (letter.Aborted txn) h = turns _ (hears_other _ refl) refl refl
-letter-turns s from (letter.MapTell txn leaf) h = turns _ (hears_other _ refl) refl refl
+letter-turns s from (letter.Got txn a) h = turns _ (hears_other _ refl) refl refl refl
+letter-turns s from (letter.Vote txn vote) h = turns _ (hears_other _ refl) refl refl refl
+letter-turns s from (letter.Applied txn was) h = turns _ (hears_other _ refl) refl refl refl
+letter-turns s from (letter.Aborted txn) h = turns _ (hears_other _ refl) refl refl refl
+letter-turns s from (letter.MapTell txn leaf) h = turns _ (hears_other _ refl) refl refl refl
 
-pub order-goes : (s : BrickState) (o : Order) → Goes (seat s) (brick_input s o)
+pub order-goes : (s : BrickState) (o : Order) → GoesFrom told_order (seat s) (brick_input s o)
 order-goes s (the_order.Join brick name via) = own_rows.join_order s name via
 order-goes s (the_order.Split brick name) = own_rows.split_order s name
