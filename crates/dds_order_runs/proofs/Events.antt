@@ -1,5 +1,5 @@
 use Rattle.std.proofs.Common.{◌≡◌, ℕ, ◌≤◌, true, false, Option, Some, None, List, [], ◌∷◌, refl, sym, ap, subst}
-use Rattle.dds_base.specs.Name.{Name, same_name}
+use Rattle.dds_base.specs.Name.{Name}
 use Rattle.dds_base.specs.NodeSet.{has_node}
 use Rattle.dds_base.specs.declared.leaf.Leaf.{Leaf}
 use Rattle.dds_base.specs.declared.number.NodeNo.{NodeNo}
@@ -24,7 +24,6 @@ use Rattle.dds_order_talk.proofs.Fitting.{JoinersAreUnlisted, NodeFits, fits-kep
 use Rattle.dds_order_talk.proofs.Givers.{AreGiven, given-kept}
 use Rattle.dds_order_talk.proofs.Letters.{AreWithin}
 use Rattle.dds_order_talk.proofs.MemberHears.{sent}
-use Rattle.dds_order_talk.proofs.RightLetters.{LeavesFit}
 use Rattle.dds_order_talk.proofs.TalkKeeps.{MayTake, talks-kept}
 use Rattle.dds_order_talk.proofs.Talking as talking
 use Rattle.dds_order_talk.proofs.Talking.{Talking, stood-at, with-of}
@@ -33,11 +32,10 @@ use Rattle.dds_order_talk.specs.Table.Say.{installed}
 use Rattle.dds_order_rows.specs.OwnOrder.{is_leasing}
 use Rattle.dds_orders.proofs.Asked.{AskedBy}
 use Rattle.dds_orders.proofs.Asks.{AreAsked, NodeAsks}
-use Rattle.dds_orders.proofs.Counting.{not-none}
 use Rattle.dds_orders.proofs.Deeds.{seat}
 use Rattle.dds_orders.proofs.Leases.{same-is}
 use Rattle.dds_orders.proofs.Numbered as numbered
-use Rattle.dds_orders.proofs.Standing.{deed-both, heard-both, path-stood}
+use Rattle.dds_orders.proofs.Standing.{heard-both, path-stood}
 use Rattle.dds_orders.proofs.Stood.{AreStood}
 use Rattle.dds_orders.proofs.Turns.{Turns, letter-turns, order-goes}
 use Rattle.dds_orders.specs.Law.{asked_of}
@@ -46,7 +44,6 @@ use Rattle.dds_pairs.proofs.Names.{Fit}
 use Rattle.dds_states.specs.declared.brick_state.BrickState.{BrickState}
 use Rattle.dds_states.specs.declared.brick_state.OpenOrder.{OpenOrder}
 use Rattle.dds_order_runs.proofs.Grants.{granted-told}
-use Rattle.dds_order_runs.proofs.Installs.{Installed}
 use Rattle.dds_order_runs.proofs.Makes.{OrderMakes, heard-makes, none-makes, path-makes}
 use Rattle.dds_order_runs.proofs.Placed.{lists-once}
 use Rattle.dds_order_runs.proofs.Told.{installs-it, order-of, phase-of}
@@ -135,8 +132,8 @@ may-take z cs n (brick_takes at from l s) f b w g =
           granted-told z n at from l s sj.order x u number told own b.known f (path-stood at (seat s) u.first [] u.takes (stood-at z n at s w f.here)) e k
           found said;
       install = λ number made own e its named has_own.
-          installs-of z n at from l s sj x sj.order (leaf_of sj.order) u number made own b w g f there alive unknown refl (λ o k. sym (ap leaf_of k)) e its named
-          has_own;
+          installs-of z n at from l s sj x sj.order (leaf_of sj.order) u number made own b w g f there alive unknown refl (λ o k. sym (ap leaf_of k)) e its
+          named has_own;
     }
 may-take z cs n (brick_told at o s) f b w g = tt
 may-take z cs n (brick_stops at s kept) f b w g = tt

@@ -1,5 +1,5 @@
-use Rattle.std.proofs.Common.{◌≡◌, ℕ, ◌+◌, ◌-◌, ◌%◌, ◌^◌, ◌<◌, ◌≤◌, ◌==◌, ◌&&◌, ◌||◌, ◌++◌, Bool, true, false, cond, Option, Some, None, List, [], ◌∷◌, refl, sym}
-use Rattle.std.proofs.Common.{inl, inr, ap, ◌∙◌, subst, arith}
+use Rattle.std.proofs.Common.{◌≡◌, ℕ, ◌+◌, ◌-◌, ◌%◌, ◌^◌, ◌<◌, ◌≤◌, ◌==◌, ◌&&◌, ◌||◌, ◌++◌, Bool, true, false, cond, Option, Some, None, List}
+use Rattle.std.proofs.Common.{[], ◌∷◌, refl, sym, inl, inr, ap, ◌∙◌, subst, arith}
 use Rattle.std.proofs.Math.Nat.{mod-eq_of_lt}
 use Rattle.std.proofs.lemmas.Bool.{and_from, and_parts, both_ways, cases_Bool, eq-eqb, ne_eqb}
 use Rattle.std.proofs.lemmas.Bool.Decides.{nat_tests}
@@ -20,7 +20,6 @@ use Rattle.dds_letters.specs.declared.letter.Letter.TheVariants as letter
 use Rattle.dds_locks.specs.Leases.{is_given, is_lease, lease_of}
 use Rattle.dds_locks.specs.declared.leases.Lease.{Lease}
 use Rattle.dds_maps.specs.Own.{own_leaf, whole}
-use Rattle.dds_order_talk.proofs.Holds.{name-self}
 use Rattle.dds_order_talk.proofs.MemberHears.{sent}
 use Rattle.dds_order_talk.proofs.MemberSide.{overlap-self}
 use Rattle.dds_order_talk.specs.Seen.{New, joined, one, says, split}
@@ -157,7 +156,8 @@ pub install-done : (j : ℕ) (l : Letter) (m n : Seat) (ls : List (NodeNo × Let
 install-done j l m n ls number made own o x (installs i leaf mine may) e its can new =
     let is : leaf ≡ made = cc in
     let at : i ≡ number = cc in
-    let same : own ≡ mine = same-leaf (own_leaf m.own.leaves made.name) own mine can.there (ap (λ (k : Leaf). own_leaf m.own.leaves k.name) (sym is) ∙ may.there) in (
+    let mine_is = ap (λ (k : Leaf). own_leaf m.own.leaves k.name) (sym is) ∙ may.there in
+    let same : own ≡ mine = same-leaf (own_leaf m.own.leaves made.name) own mine can.there mine_is in (
       subst (λ k. New (replaced m.own.leaves mine k) x made) (sym is) (subst (λ k. New (replaced m.own.leaves k made) x made) same new),
       ap (λ c. one c installed ++ []) (ap (λ k. o.number == k && same_name o.name x) at ∙ its),
     )

@@ -8,8 +8,8 @@ use Rattle.dds_base.specs.declared.number.NodeNo.{NodeNo}
 use Rattle.dds_brick_rows.specs.Refusal.{is_join}
 use Rattle.dds_groups.proofs.Steps.{joined-successor, low-successor}
 use Rattle.dds_groups.specs.Leaves.{is_some_of, live, successor}
-use Rattle.dds_law_own.proofs.Lists.{Each, each-is}
-use Rattle.dds_law_own.proofs.Owned.{IsOrderly, made_name, orderly}
+use Rattle.dds_law_own.proofs.Lists.{each-is}
+use Rattle.dds_law_own.proofs.Owned.{IsOrderly, orderly}
 use Rattle.dds_law_own.proofs.Parted.{IsBoth}
 use Rattle.dds_letters.specs.declared.letter.Letter.{Letter}
 use Rattle.dds_order_rows.specs.OwnOrder as order
@@ -27,7 +27,6 @@ use Rattle.dds_states.specs.declared.brick_state.OrderPhase.{OrderPhase}
 use Rattle.dds_states.specs.declared.brick_state.OrderPhase.TheVariants.{Copying, Installing, Leasing}
 use Rattle.dds_states.specs.declared.brick_state.Task.{Task}
 use Rattle.dds_states.specs.declared.brick_state.Task.TheVariants.{Join, Split}
-use Rattle.dds_world.specs.Groups as world
 
 -- The leaf that an open order has made is a successor of the order's leaf, where that has a partition's name: each deed and each letter
 -- keeps it.

@@ -1,12 +1,9 @@
-use Rattle.std.proofs.Common.{◌≡◌, ℕ, refl, subst}
-use Rattle.dds_base.specs.Name.{Name}
-use Rattle.dds_base.specs.declared.leaf.Leaf.{Leaf}
+use Rattle.std.proofs.Common.{subst}
 use Rattle.dds_books.specs.Placed.{ArePlaced, BrickOk, LetterOk, Made, NodeOk}
 use Rattle.dds_letters.specs.declared.letter.Letter.TheVariants as letter
 use Rattle.dds_net.proofs.Letters.{first-all}
-use Rattle.dds_net.specs.Net.{Net, a_brick, Sizes}
+use Rattle.dds_net.specs.Net.{Net, Sizes}
 use Rattle.dds_order_talk.proofs.Fitting.{ListOnce}
-use Rattle.dds_states.specs.declared.brick_state.BrickState.{BrickState}
 
 -- Leaves of a world of a run list each member once, by the law of nodes' places.
 

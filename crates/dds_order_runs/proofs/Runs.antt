@@ -1,4 +1,4 @@
-use Rattle.std.proofs.Common.{◌≡◌, ℕ, zero, suc, inl, inr, true, false, List, [], ◌∷◌, ◌++◌, Some, length, drop, refl, sym, ap, ◌∙◌, subst}
+use Rattle.std.proofs.Common.{◌≡◌, ℕ, zero, suc, inl, inr, true, false, List, [], ◌∷◌, ◌++◌, length, drop, refl, sym, ap, ◌∙◌, subst}
 use Rattle.std.proofs.Math.Seq.{take-append_seam}
 use Rattle.std.proofs.lemmas.Bool.{both_ways, cases_Bool, ne_eqb}
 use Rattle.std.proofs.lemmas.List.{append-nil, append_assoc}
@@ -26,7 +26,7 @@ use Rattle.dds_order_rows.specs.OwnOrder.{is_leasing}
 use Rattle.dds_order_talk.proofs.Fitting.{JoinersAreUnlisted}
 use Rattle.dds_order_talk.proofs.Holds as holds
 use Rattle.dds_order_talk.proofs.Holds.{granted-holds}
-use Rattle.dds_order_talk.proofs.Letters.{AreWithin, BrickOk, NodeOk}
+use Rattle.dds_order_talk.proofs.Letters.{BrickOk, NodeOk}
 use Rattle.dds_order_talk.proofs.Runs.{run-within}
 use Rattle.dds_order_talk.proofs.TalkBegins.{orders-talk-of, start-fits, start-given, start-talks}
 use Rattle.dds_order_talk.specs.Seen.{New, Own}

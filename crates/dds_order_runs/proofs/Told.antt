@@ -1,14 +1,15 @@
-use Rattle.std.proofs.Common.{◌≡◌, ℕ, ◌^◌, ◌<◌, ◌==◌, ◌&&◌, ◌++◌, ◌⊎◌, inl, inr, Bool, true, false, not, Option, Some, None, List, [], ◌∷◌, refl, sym, ap, ◌∙◌, subst}
+use Rattle.std.proofs.Common.{◌≡◌, ℕ, ◌^◌, ◌<◌, ◌==◌, ◌++◌, inl, inr, Bool, true, false, not, Some, List, [], ◌∷◌, refl, ap, ◌∙◌, subst}
 use Rattle.std.proofs.lemmas.Bool.{and_from, both_ways, eqb-true}
 use Rattle.std.specs.FinMap.{get}
 use Rattle.std.specs.Prelude.{is_some, if◌then◌else◌}
 use Rattle.dds_base.specs.BrickList.{has}
-use Rattle.dds_base.specs.Name.{Name, overlaps, same_name}
+use Rattle.dds_base.specs.Name.{Name, same_name}
 use Rattle.dds_base.specs.NodeSet.{has_node}
 use Rattle.dds_base.specs.declared.leaf.Leaf.{Leaf}
 use Rattle.dds_base.specs.declared.number.NodeNo.{NodeNo}
 use Rattle.dds_core.specs.Brick.{live_brick_turn}
 use Rattle.dds_groups.specs.Leaves.{successor}
+use Rattle.dds_law_leaf.proofs.Maps.{each-is}
 use Rattle.dds_law_own.proofs.Lists.{Each}
 use Rattle.dds_law_own.proofs.Owned.{made_name, orderly}
 use Rattle.dds_letters.specs.declared.letter.Letter.{Letter}
@@ -22,31 +23,25 @@ use Rattle.dds_order_talk.proofs.Holds.{both-live, name-self}
 use Rattle.dds_order_talk.proofs.InstallsApart.{install-given, made-meets}
 use Rattle.dds_order_talk.proofs.Letters as within
 use Rattle.dds_order_talk.proofs.Lines.{IsTold, install-told, is_told}
-use Rattle.dds_order_talk.proofs.MemberHears.{sent}
 use Rattle.dds_order_talk.proofs.MemberSide.{own-while}
 use Rattle.dds_order_talk.proofs.Moves.{Stays, Tells}
 use Rattle.dds_order_talk.proofs.Sendings.{work-as}
 use Rattle.dds_order_talk.proofs.Talking.{Wanted, counted-at, low-at, stood-at}
-use Rattle.dds_order_talk.specs.Seen.{BrickTalk, New, Own, asks, is_its, is_named, phase_view, rests, says, view, with_leaf}
+use Rattle.dds_order_talk.specs.Seen.{New, Own, asks, phase_view, rests, says, view, with_leaf}
 use Rattle.dds_order_talk.specs.Table.{Ask, Talks, View}
 use Rattle.dds_order_talk.specs.Table.Ask.{install}
-use Rattle.dds_order_talk.specs.Table.Say.{installed}
 use Rattle.dds_order_talk.specs.Table.View.{Off, Due, Done}
 use Rattle.dds_orders.proofs.Asked.{AskedBy}
-use Rattle.dds_orders.proofs.Deeds.{Seat, seat}
+use Rattle.dds_orders.proofs.Deeds.{seat}
 use Rattle.dds_orders.proofs.Leased.{path-given, path-stays}
-use Rattle.dds_orders.proofs.Leases.{same-is}
-use Rattle.dds_orders.proofs.Numbered as numbered
-use Rattle.dds_orders.proofs.Standing.{Stood, path-stood}
+use Rattle.dds_orders.proofs.Standing.{path-stood}
 use Rattle.dds_orders.proofs.Turns.{Turns, same-leaf}
 use Rattle.dds_orders.specs.Law.{asked_of}
 use Rattle.dds_pairs.proofs.Names.{Fit}
 use Rattle.dds_states.specs.declared.brick_state.BrickState.{BrickState}
 use Rattle.dds_states.specs.declared.brick_state.OpenOrder.{OpenOrder}
-use Rattle.dds_states.specs.declared.brick_state.OrderPhase.{OrderPhase}
 use Rattle.dds_states.specs.declared.brick_state.OrderPhase.TheVariants.{Installing}
 use Rattle.dds_world.specs.Groups as world
-use Rattle.dds_law_leaf.proofs.Maps.{each-is}
 use Rattle.dds_order_runs.proofs.Installs.{Installed, given-finds, install-done, new-made, own-made}
 use Rattle.dds_order_runs.proofs.Makes.{OrderMakes}
 
@@ -136,7 +131,8 @@ order-of z n at from l s sj o number made leaf w asked makes f there alive unkno
     let it = (orderly from (seat sj).own.order o opened stood.both.0.order).made in
     let named = subst (λ p. Each (λ (k : Leaf). (k.name ≡ made_name o.name o.task) × (has k.list from ≡ true)) (world.made_leaf p)) phase it in
     let ok = first-all (within.LetterOk n.node from at) z n at from l f.letter (w.within.letters from at) in
-    let asks_it : within.Asked (a_brick sj) number at = subst (λ y. within.Asked y number at) there (ok.asks number (ap asked_of e) (low-at z n at s w f.here)) in
+    let asks_it : within.Asked (a_brick sj) number at =
+    subst (λ y. within.Asked y number at) there (ok.asks number (ap asked_of e) (low-at z n at s w f.here)) in
     let was : has o.asked at ≡ true = (asks_it alive).of o opened number_is in
     let member = (w.fits from sj there o opened).lists leaf fixed at was in
     record {
@@ -170,7 +166,8 @@ installs-it z n at from l s sj o number made leaf own u w fit f there alive ne k
     let range : o.name.bits < 2 ^ o.name.depth = subst (λ (q : Name). q.bits < 2 ^ q.depth) has_leaf.name range_leaf in
     let c = (phase-of z n at from l s sj o number made w f there alive k.opened e its).0 in
     let meets = made-meets from (seat sj) o number made (stood-at z n from sj w there) k.opened c its in
-    install-done from l u.first u.next u.answers number made own o o.name u.hears e (and_from (o.number == number) (same_name o.name o.name) its (name-self o.name))
+    install-done from l u.first u.next u.answers number made own o o.name u.hears e
+    (and_from (o.number == number) (same_name o.name o.name) its (name-self o.name))
     (record {
       there = own-made o.task u.first.own.leaves o.name made.name own k.name first.both.1.leaves range has_own.is;
       leased = given-finds u.first.own.leases o.name made.name from meets

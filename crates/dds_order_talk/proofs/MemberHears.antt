@@ -31,9 +31,9 @@ use Rattle.dds_order_talk.specs.Table.Talks.{gone}
 
 -- A live member takes a letter of a brick: what becomes of their conversation about each name.
 
--- what is wanted of the letter: one of the open order is of its name, and tells the leaf that the member has, if it has its stamp; a
--- leaf that it tells to install is installed; one of another name leaves what the member has of this one; a notice is of a node that
--- has stopped
+-- what is wanted of the letter: one of the open order is of its name, and tells the leaf that the member has, if that has its stamp and
+-- is granted; a leaf that it tells to install is installed; one of another name leaves what the member has of this one; a notice is of
+-- a node that has stopped
 pub record IsRight (j : ℕ) (x : Name) (q : Option OpenOrder) (lives : Bool) (l : Letter) (m n : Seat) (said : List Say) : Type 0 where
   pub lease :
       (number : ℕ) (what : Wanted) → l ≡ letter.Lease number what → (is_its q number && is_named q x) ≡ true

@@ -50,7 +50,7 @@ use Rattle.dds_order_talk.specs.Table.Ask.{install}
 -- A letter of a live brick's open order says the order's name, and a live node sends no notice: of what is wanted of a letter to a member,
 -- what is left is about leaves.
 
--- a leaf of one name and stamp is one leaf; and a leaf that an order made is installed
+-- a granted leaf of the told one's name and stamp is that leaf; and a leaf that an order made is installed
 pub record LeavesFit (j : ℕ) (x : Name) (q : Option OpenOrder) (l : Letter) (m n : Seat) (said : List Say) : Type 0 where
   pub leaf :
       (number : ℕ) (told own : Leaf) → l ≡ letter.Lease number (wanted.Leaf told) → get m.own.leaves told.name ≡ Some own
