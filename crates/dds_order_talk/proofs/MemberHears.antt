@@ -24,23 +24,23 @@ use Rattle.dds_states.specs.declared.brick_state.OpenOrder.{OpenOrder}
 use Rattle.dds_order_talk.proofs.MemberSide.{With, given-back, lease-given, on-copy, on-denied, on-install, on-lease, on-no-copy, on-release, quiet}
 use Rattle.dds_order_talk.proofs.Moves.{Stays, Tells}
 use Rattle.dds_order_talk.proofs.Projections.{other-asks}
-use Rattle.dds_order_talk.specs.Seen.{New, Own, ask_of, is_its, is_named, says, wanted_name}
+use Rattle.dds_order_talk.specs.Seen.{New, Own, ask_of, is_its, is_named, one, says, wanted_name}
 use Rattle.dds_order_talk.specs.Table.{Ask, FitsAsked, Say, Talks, View}
-use Rattle.dds_order_talk.specs.Table.Say.{installed}
+use Rattle.dds_order_talk.specs.Table.Say.{granted, installed}
 use Rattle.dds_order_talk.specs.Table.Talks.{gone}
 
 -- A live member takes a letter of a brick: what becomes of their conversation about each name.
 
--- what is wanted of the letter: one of the open order is of its name, and tells the leaf that the member has, if it has its stamp; a
--- leaf that it tells to install is installed; one of another name leaves what the member has of this one; a notice is of a node that
--- has stopped
+-- what is wanted of the letter: one of the open order is of its name, and tells the leaf that the member has, if that has its stamp and
+-- is granted; a leaf that it tells to install is installed; one of another name leaves what the member has of this one; a notice is of
+-- a node that has stopped
 pub record IsRight (j : ℕ) (x : Name) (q : Option OpenOrder) (lives : Bool) (l : Letter) (m n : Seat) (said : List Say) : Type 0 where
   pub lease :
       (number : ℕ) (what : Wanted) → l ≡ letter.Lease number what → (is_its q number && is_named q x) ≡ true
       → same_name (wanted_name what) x ≡ true
   pub leaf :
       (number : ℕ) (told own : Leaf) → l ≡ letter.Lease number (wanted.Leaf told) → get m.own.leaves told.name ≡ Some own
-      → is_found (Some told.stamp) (Some own) ≡ true → told ≡ own
+      → is_found (Some told.stamp) (Some own) ≡ true → said ≡ granted own ∷ [] → told ≡ own
   pub copy :
       (number : ℕ) (name : Name) (key : Option ℕ) → l ≡ letter.CopyAsk number name key → is_its q number ≡ true → is_named q x ≡ true → name ≡ x
   pub install :
@@ -106,7 +106,7 @@ member-letter me j x q l m n ls (gives number what leaf there free stamp unknown
       record { name = keyed me m.own leaf h.both.0 (wanted_name what) there ∙ is; is = ap (get m.own.leaves) (sym is) ∙ there },
       fits-asked what leaf (λ told f.
           r.leaf number told leaf (ap (letter.Lease number) f) (ap (λ w. get m.own.leaves (wanted_name w)) (sym f) ∙ there)
-          (ap (λ w. is_found (wanted_stamp w) (Some leaf)) (sym f) ∙ stamp)),
+          (ap (λ w. is_found (wanted_stamp w) (Some leaf)) (sym f) ∙ stamp) (ap (λ c. one c (granted leaf) ++ []) e)),
     )) k)
 member-letter me j x q l m _ ls (denies number what why) h ne r k = on-denied (is_given m.own.leases x j) (is_its q number && is_named q x) what k
 member-letter me j x q l m n ls (releases number name) h ne r k =

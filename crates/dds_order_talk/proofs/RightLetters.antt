@@ -30,7 +30,7 @@ use Rattle.dds_order_talk.proofs.Talking as talking
 use Rattle.dds_order_talk.proofs.Talking.{counted-at, stood-at}
 use Rattle.dds_order_talk.specs.Seen.{New, Own, is_its, is_named, wanted_name}
 use Rattle.dds_order_talk.specs.Table.{Say}
-use Rattle.dds_order_talk.specs.Table.Say.{installed}
+use Rattle.dds_order_talk.specs.Table.Say.{granted, installed}
 use Rattle.dds_base.specs.NodeSet.{has_node}
 use Rattle.dds_core.specs.Brick.{live_brick_turn}
 use Rattle.dds_orders.proofs.Leased.{path-given}
@@ -50,11 +50,11 @@ use Rattle.dds_order_talk.specs.Table.Ask.{install}
 -- A letter of a live brick's open order says the order's name, and a live node sends no notice: of what is wanted of a letter to a member,
 -- what is left is about leaves.
 
--- a leaf of one name and stamp is one leaf; and a leaf that an order made is installed
+-- a granted leaf of the told one's name and stamp is that leaf; and a leaf that an order made is installed
 pub record LeavesFit (j : ℕ) (x : Name) (q : Option OpenOrder) (l : Letter) (m n : Seat) (said : List Say) : Type 0 where
   pub leaf :
       (number : ℕ) (told own : Leaf) → l ≡ letter.Lease number (wanted.Leaf told) → get m.own.leaves told.name ≡ Some own
-      → is_found (Some told.stamp) (Some own) ≡ true → told ≡ own
+      → is_found (Some told.stamp) (Some own) ≡ true → said ≡ granted own ∷ [] → told ≡ own
   pub install :
       (number : ℕ) (made own : Leaf) → l ≡ letter.Install number made → is_its q number ≡ true → is_named q x ≡ true → Own m.own.leaves x own
       → New n.own.leaves x made × (said ≡ installed ∷ [])

@@ -1,0 +1,18 @@
+//! The laws, as contracts of functions that do nothing.
+
+ghost use Rattle.dds_order_runs.specs.Law.{GrantedMembersHold, OrdersAlwaysTalk};
+
+/// In each world of each run, with stops, splits and joins: each two bricks talk about orders by the table of conversations. This has one
+/// hypothesis, which is not proved here: at each place of the run, where a live brick joins a name and has no leaf of it yet, no live other
+/// brick's leaf of that name lists the brick that joins.
+pub fn orders_always_talk()
+    ensures { OrdersAlwaysTalk }
+{}
+
+/// In each world of each run, of each live brick's open order that has its leaf, and each live member that granted it: the member has
+/// given the lease of the order's name to the brick, and has the order's leaf under that name, or, where the order installs, that leaf or
+/// what was made. This has the same one hypothesis: at each place of the run, where a live brick joins a name and has no leaf of it yet,
+/// no live other brick's leaf of that name lists the brick that joins.
+pub fn granted_members_hold()
+    ensures { GrantedMembersHold }
+{}
