@@ -1,8 +1,9 @@
-use Rattle.std.proofs.Common.{◌≡◌, ℕ, zero, suc, inl, inr, true, false, List, [], ◌∷◌, ◌++◌, length, drop, refl, sym, ap, ◌∙◌, subst}
+use Rattle.std.proofs.Common.{◌≡◌, ℕ, zero, suc, inl, inr, Bool, true, false, not, Option, Some, None, List, [], ◌∷◌, ◌++◌, length, drop}
+use Rattle.std.proofs.Common.{refl, sym, ap, ◌∙◌, subst}
 use Rattle.std.proofs.Math.Seq.{take-append_seam}
 use Rattle.std.proofs.lemmas.Bool.{both_ways, cases_Bool, ne_eqb}
 use Rattle.std.proofs.lemmas.List.{append-nil, append_assoc}
-use Rattle.std.specs.Prelude.{take}
+use Rattle.std.specs.Prelude.{take, if◌then◌else◌}
 use Rattle.dds_base.specs.BrickList.{has}
 use Rattle.dds_base.specs.Name.{Name}
 use Rattle.dds_base.specs.NodeSet.{has_node}
@@ -25,11 +26,16 @@ use Rattle.dds_net.specs.Net.{Net, Node, net, sizes_of}
 use Rattle.dds_order_rows.specs.OwnOrder.{is_leasing}
 use Rattle.dds_order_talk.proofs.Fitting.{JoinersAreUnlisted}
 use Rattle.dds_order_talk.proofs.Holds as holds
-use Rattle.dds_order_talk.proofs.Holds.{granted-holds}
+use Rattle.dds_order_talk.proofs.Holds.{both-live, granted-holds, name-self}
+use Rattle.dds_order_talk.proofs.Lines.{granted-leaf}
+use Rattle.dds_order_talk.proofs.Moves.{Tells}
 use Rattle.dds_order_talk.proofs.Letters.{BrickOk, NodeOk}
 use Rattle.dds_order_talk.proofs.Runs.{run-within}
 use Rattle.dds_order_talk.proofs.TalkBegins.{orders-talk-of, start-fits, start-given, start-talks}
-use Rattle.dds_order_talk.specs.Seen.{New, Own}
+use Rattle.dds_order_talk.specs.Seen.{New, Own, phase_view, rests, with_leaf}
+use Rattle.dds_order_talk.specs.Seen.{view as view_of}
+use Rattle.dds_order_talk.specs.Table.{Ask, Say, Talk, View}
+use Rattle.dds_order_talk.specs.Table.View.{Off, Due, Done}
 use Rattle.dds_orders.proofs.Asks.{run-asked}
 use Rattle.dds_orders.proofs.Stood.{run-stood}
 use Rattle.dds_pairs.proofs.NameKeeps.{run-named}
@@ -139,6 +145,17 @@ has-of m x leaf Leasing h = h
 has-of m x leaf (Copying source) h = h
 has-of m x leaf (Installing made) h = h
 
+-- who isn't waited for any more has what was made
+done-made : {Own New : Tells} {v : View} {a : List Ask} {given : Bool} {b : List Say} {x : Name} (m : ℕ) (w g : Bool) (q : Option Leaf) (leaf made : Leaf)
+    → w ≡ false → g ≡ true → q ≡ Some leaf
+    → v ≡ (if w then with_leaf rests m q (λ own. Due own made) else (if g then with_leaf rests m q (λ own. Done own made) else Off))
+    → Talk x Own New v a given b → New made
+done-made m true g q leaf made e f k i h = cc
+done-made m false false q leaf made e f k i h = cc
+done-made m false true None leaf made e f k i h = cc
+done-made {Own = Own} {New = New} {a = a} {given = given} {b = b} {x = x} m false true (Some own) leaf made e f k i h =
+    (granted-leaf refl (subst (λ v. Talk x Own New v a given b) i h)).1
+
 pub granted-hold : GrantedMembersHold
 granted-hold o journal brick member s t q leaf h run unlisted live also opened fixed gave =
     let w = reached o journal in
@@ -157,4 +174,12 @@ granted-hold o journal brick member s t q leaf h run unlisted live also opened f
     ]) in
     let r = granted-holds brick member s t q leaf (n.channel brick member) (n.channel member brick) live.live also.live unknown opened fixed gave apart
     (talk brick member q.name s t here there ne) in
-    record { lease = r.0; own = has-of t.leaves q.name leaf q.phase r.1 }
+    let line = both-live (ap not live.live) (ap not also.live) (talk brick member q.name s t here there ne unknown) in
+    record {
+      lease = r.0;
+      own = has-of t.leaves q.name leaf q.phase r.1;
+      made = λ made phase done.
+          done-made member (has q.waiting member) (has q.granted member) q.leaf leaf made done gave fixed
+          (ap (λ k. view_of rests k q.name member) opened ∙ ap (λ c. if c then phase_view rests q member q.phase else Off) (name-self q.name)
+          ∙ ap (phase_view rests q member) phase) line;
+    }

@@ -1,5 +1,5 @@
 -- What orders and their members have of each other.
-use Rattle.std.specs.Prelude.{ℕ, ◌≡◌, ◌⊎◌, true, List, Some}
+use Rattle.std.specs.Prelude.{ℕ, ◌≡◌, ◌⊎◌, true, false, List, Some}
 use Rattle.dds_base.specs.BrickList.{has}
 use Rattle.dds_base.specs.Name.{Name}
 use Rattle.dds_base.specs.declared.leaf.Leaf.{Leaf}
@@ -35,14 +35,15 @@ HasOf m x leaf Leasing = Own m x leaf
 HasOf m x leaf (Copying source) = Own m x leaf
 HasOf m x leaf (Installing made) = Own m x leaf ⊎ New m x made
 
--- the member has given the lease of the order's name to the brick, and has the leaf
-pub record Holds (brick : NodeNo) (o : OpenOrder) (leaf : Leaf) (t : BrickState) : Type 0 where
+-- the member has given the lease of the order's name to the brick, and has the leaf; it has what was made, where it isn't waited for
+pub record Holds (brick member : NodeNo) (o : OpenOrder) (leaf : Leaf) (t : BrickState) : Type 0 where
   pub lease : is_given t.locks.leases o.name brick ≡ true
   pub own : HasOf t.leaves o.name leaf o.phase
+  pub made : (made : Leaf) → o.phase ≡ Installing made → has o.waiting member ≡ false → New t.leaves o.name made
 
 -- of each live brick's open order that has its leaf, and each live member that granted it
 abbrev pub GrantedMembersHold : Type 0
 GrantedMembersHold =
     (o : OpeningOf) (journal : List Step) (brick member : NodeNo) (s t : BrickState) (open_order : OpenOrder) (leaf : Leaf) → IsOpening o
     → is_run o journal ≡ true → JoinersStayUnlisted o journal → IsLive (reached o journal) brick s → IsLive (reached o journal) member t
-    → s.order ≡ Some open_order → open_order.leaf ≡ Some leaf → has open_order.granted member ≡ true → Holds brick open_order leaf t
+    → s.order ≡ Some open_order → open_order.leaf ≡ Some leaf → has open_order.granted member ≡ true → Holds brick member open_order leaf t

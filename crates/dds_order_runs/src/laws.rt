@@ -11,8 +11,8 @@ pub fn orders_always_talk()
 
 /// In each world of each run, of each live brick's open order that has its leaf, and each live member that granted it: the member has
 /// given the lease of the order's name to the brick, and has the order's leaf under that name, or, where the order installs, that leaf or
-/// what was made. This has the same one hypothesis: at each place of the run, where a live brick joins a name and has no leaf of it yet,
-/// no live other brick's leaf of that name lists the brick that joins.
+/// what was made, and what was made where the order doesn't wait for it. This has the same one hypothesis: at each place of the run, where
+/// a live brick joins a name and has no leaf of it yet, no live other brick's leaf of that name lists the brick that joins.
 pub fn granted_members_hold()
     ensures { GrantedMembersHold }
 {}
