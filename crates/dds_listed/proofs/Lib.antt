@@ -1,3 +1,10 @@
 pub mod Listed
 pub mod Unlisted
 pub mod Keeps
+pub mod Installing
+pub mod Later
+pub mod Granted
+pub mod Siblings
+pub mod Replaced
+pub mod LeafDeeds
+pub mod Worlds

@@ -65,7 +65,7 @@ made-named b t o made both there join phase =
 same-leaf : (p : OrderPhase) (a b : Leaf) → p ≡ Installing a → p ≡ Installing b → a ≡ b
 same-leaf p a b e f = let is : Installing a ≡ Installing b = sym e ∙ f in cc
 
-not-whole : (n : Name) → 1 ≤ n.depth → n ≡ whole n → ⊥
+pub not-whole : (n : Name) → 1 ≤ n.depth → n ≡ whole n → ⊥
 not-whole n deep e = let d : n.depth ≡ n.depth - 1 = ap (λ (x : Name). x.depth) e in omega (arith, deep, d)
 
 module _ (b : ℕ) (t : BrickState) (mine leaf : Leaf) (both : IsBoth b (own t)) (name : mine.name ≡ whole leaf.name) (named : IsName leaf.name)

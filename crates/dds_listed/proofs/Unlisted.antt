@@ -35,7 +35,7 @@ none-some : (q : Option Leaf) → q ≡ None → is_some q ≡ true → ⊥
 none-some None e h = cc
 none-some (Some leaf) e h = cc
 
-answers-not : (j : ℕ) (s : BrickState) (p : OpenOrder) (leaf : Leaf) → IsBoth j (own s) → s.order ≡ Some p → is_join p.task ≡ true → p.leaf ≡ None
+pub answers-not : (j : ℕ) (s : BrickState) (p : OpenOrder) (leaf : Leaf) → IsBoth j (own s) → s.order ≡ Some p → is_join p.task ≡ true → p.leaf ≡ None
     → leaf.name ≡ p.name → IsName leaf.name → Answers s leaf → ⊥
 answers-not j s p leaf both there join none name named (serves over) =
     let key = leaf.name.bits in

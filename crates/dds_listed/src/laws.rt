@@ -1,7 +1,9 @@
 //! The laws, as contracts of functions that do nothing.
 
-ghost use Rattle.std.specs.Prelude.{◌≡◌, true};
+ghost use Rattle.dds_listed.specs.Law.{JoinsAreUnlisted};
 
-pub fn temp()
-    ensures { true ≡ true }
+/// In each world of each run, with stops, splits and joins, provided that in that world live members answer for the leaves that list them:
+/// wherever a leaf stands that has the name of a live brick's open join without a leaf, it doesn't list that brick.
+pub fn joins_are_unlisted()
+    ensures { JoinsAreUnlisted }
 {}
