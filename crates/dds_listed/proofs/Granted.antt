@@ -58,7 +58,7 @@ own-of Own New (Copying source) leaf e h = h
 own-of Own New (Installing made) leaf e h = cc
 
 module _ (z : Sizes) (n : Net) (g : AreAll z n) (named : AreNamed z n) (j m : ℕ) (s t : BrickState) (o : OpenOrder) (here : n.node j ≡ a_brick s)
-  (there : n.node m ≡ a_brick t) (live : s.stopped ≡ false) (also : t.stopped ≡ false) (other : m ≡ j → ⊥) (is : s.order ≡ Some o)
+    (there : n.node m ≡ a_brick t) (live : s.stopped ≡ false) (also : t.stopped ≡ false) (other : m ≡ j → ⊥) (is : s.order ≡ Some o)
   where
     own-covers : (leaf : Leaf) → Own t.leaves o.name leaf → (key : ℕ) → covers o.name key ≡ true → is_some (leaf_for t.leaves key) ≡ true
     own-covers leaf has_it key over =

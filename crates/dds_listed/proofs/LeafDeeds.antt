@@ -50,11 +50,11 @@ Brings P (makes o made nodes there may) = P made
 Brings P (closes o there) = Unit {0}
 Brings P (serves o made there phase) = Beside P made o.task
 
-each-letter : (P : Leaf → Type 0) (ns : List NodeNo) (l : Letter) → InLetter P l → AllLetters P (to_each ns l)
+pub each-letter : (P : Leaf → Type 0) (ns : List NodeNo) (l : Letter) → InLetter P l → AllLetters P (to_each ns l)
 each-letter P [] l h = tt
 each-letter P (n ∷ ns) l h = (h, each-letter P ns l h)
 
-its-order : (P : Leaf → Type 0) (q : Option OpenOrder) (o : OpenOrder) → q ≡ Some o → InOrder P q → Each P o.leaf × Each P (made_leaf o.phase)
+pub its-order : (P : Leaf → Type 0) (q : Option OpenOrder) (o : OpenOrder) → q ≡ Some o → InOrder P q → Each P o.leaf × Each P (made_leaf o.phase)
 its-order P q o e h = subst (InOrder P) e h
 
 its-made : (P : Leaf → Type 0) (p : OrderPhase) (made : Leaf) → p ≡ Installing made → Each P (made_leaf p) → P made
@@ -76,9 +76,10 @@ deed-leaves P x _ _ (splits leaf may) b h =
     let its : P leaf = each-is P (get x.own.leaves may.at) leaf may.there (h.0 may.at) in
     ((h.0, (its, tt)), each-letter P (split_asked x leaf) (letter.Lease x.orders (wanted.Leaf leaf)) its)
 deed-leaves P x _ _ (loses o y there known) b h = ((h.0, its-order P x.own.order o there h.1), tt)
-deed-leaves P x _ _ (fixes o from leaf there may) b h =
-    ((h.0, (b, (its-order P x.own.order o there h.1).1)),
-    each-letter P (unknown_others leaf.list from x.own.known) (letter.Lease o.number (wanted.Leaf leaf)) b)
+deed-leaves P x _ _ (fixes o from leaf there may) b h = (
+  (h.0, (b, (its-order P x.own.order o there h.1).1)),
+  each-letter P (unknown_others leaf.list from x.own.known) (letter.Lease o.number (wanted.Leaf leaf)) b,
+)
 deed-leaves P x _ _ (copies o leaf source there may) b h = ((h.0, ((its-order P x.own.order o there h.1).0, tt)), (tt, tt))
 deed-leaves P x _ _ (asks_more o source there phase) b h = (h, (tt, tt))
 deed-leaves P x _ _ (makes o made nodes there may) b h =

@@ -6,5 +6,8 @@ pub mod Later
 pub mod Granted
 pub mod Siblings
 pub mod Replaced
+pub mod SiblingMembers
+pub mod Made
 pub mod LeafDeeds
+pub mod LeafHears
 pub mod Worlds

@@ -69,7 +69,7 @@ pub not-whole : (n : Name) → 1 ≤ n.depth → n ≡ whole n → ⊥
 not-whole n deep e = let d : n.depth ≡ n.depth - 1 = ap (λ (x : Name). x.depth) e in omega (arith, deep, d)
 
 module _ (b : ℕ) (t : BrickState) (mine leaf : Leaf) (both : IsBoth b (own t)) (name : mine.name ≡ whole leaf.name) (named : IsName leaf.name)
-  (deep : 1 ≤ leaf.name.depth)
+    (deep : 1 ≤ leaf.name.depth)
   where
     -- a join that installs the leaf over the whole has no key of the half
     not-both : (o : OpenOrder) → t.order ≡ Some o → is_join o.task ≡ true → o.phase ≡ Installing mine → Answers t leaf → ⊥
