@@ -1,6 +1,5 @@
-use Rattle.std.proofs.Common.{◌≡◌, ℕ, ◌==◌, ◌++◌, Bool, true, false, not, Option, Some, None, List, ◌∷◌, refl, sym, ap, ◌∙◌, subst}
+use Rattle.std.proofs.Common.{◌≡◌, ℕ, ◌==◌, ◌++◌, Bool, true, false, not, Some, List, ◌∷◌, sym, ap, ◌∙◌, subst}
 use Rattle.std.proofs.lemmas.Bool.{and_from, eq-eqb, ne_eqb}
-use Rattle.std.specs.FinMap.{get}
 use Rattle.std.specs.Prelude.{is_some}
 use Rattle.dds_base.specs.BrickList.{has}
 use Rattle.dds_base.specs.Name.{Name, covers, same_name}
@@ -15,7 +14,7 @@ use Rattle.dds_net.specs.Net.{Net, Sizes, a_brick}
 use Rattle.dds_order_rows.specs.OwnOrder as order
 use Rattle.dds_order_talk.proofs.Holds.{HasOf, both-live, granted-holds, name-self}
 use Rattle.dds_order_talk.proofs.Moves.{Tells}
-use Rattle.dds_order_talk.specs.Seen.{BrickTalk, New, Own, one, rests, say_of, says, view}
+use Rattle.dds_order_talk.specs.Seen.{BrickTalk, New, Own, one, rests, say_of, says}
 use Rattle.dds_order_talk.specs.Table.{Ask, Say, Talk, View}
 use Rattle.dds_order_talk.specs.Table.Say.{granted}
 use Rattle.dds_order_talk.specs.Table.Talk.{said_yes}

@@ -1,14 +1,11 @@
 use Rattle.std.proofs.Common.{◌≡◌, ℕ, true, false, Option, Some, None, List, refl, sym, subst}
-use Rattle.std.proofs.lemmas.Bool.{both_ways}
 use Rattle.std.specs.List.{AllByRecursion}
-use Rattle.dds_base.specs.BrickList.{has}
 use Rattle.dds_base.specs.declared.leaf.Leaf.{Leaf}
 use Rattle.dds_base.specs.declared.number.NodeNo.{NodeNo}
-use Rattle.dds_cluster.specs.World.{emptied}
 use Rattle.dds_cluster.specs.declared.trace.Caller.{Caller}
 use Rattle.dds_core.proofs.Lists.{all-map}
 use Rattle.dds_core.specs.Brick.{brick_input, live_brick_turn}
-use Rattle.dds_law_leaf.proofs.Book.{Each, InCall, InLetter, InLibrary, InMap, InOrder}
+use Rattle.dds_law_leaf.proofs.Book.{InCall, InLetter, InLibrary, InOrder}
 use Rattle.dds_law_leaf.proofs.Libraries.{asked-goes, library-goes}
 use Rattle.dds_law_leaf.proofs.Maps.{each-map, in-empty}
 use Rattle.dds_letters.specs.declared.letter.Letter.{Letter}
@@ -47,9 +44,9 @@ itself-was n k (a_brick t) e = λ live. record { state = t; here = e; live = liv
 itself-was n k (a_library s) e = tt
 
 pub members-later : (n m : Net) → ((k : ℕ) → WasSo n k (m.node k)) → (leaf : Leaf) → MembersAnswer n leaf → MembersAnswer m leaf
-members-later n m was leaf h b t here live lists =
+members-later n m was leaf h new b t here live lists =
     let w : Before n b t = (let f : WasSo n b (a_brick t) = subst (WasSo n b) here (was b) in f live) in
-    w.keeps leaf (h b w.state w.here w.live lists)
+    w.keeps leaf (h new b w.state w.here w.live lists)
 
 -- what is so of all leaves of a node
 in-order : (P Q : Leaf → Type 0) (q : Option OpenOrder) → ((leaf : Leaf) → P leaf → Q leaf) → InOrder P q → InOrder Q q

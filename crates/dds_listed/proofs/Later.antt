@@ -1,7 +1,6 @@
-use Rattle.std.proofs.Common.{◌≡◌, ℕ, true, false, List, Some, refl, sym, ap, ◌∙◌, subst}
+use Rattle.std.proofs.Common.{◌≡◌, ℕ, true, List, Some, refl, sym, ap, ◌∙◌, subst}
 use Rattle.std.specs.FinMap.{get}
 use Rattle.std.specs.Prelude.{is_some}
-use Rattle.dds_base.specs.Name.{covers}
 use Rattle.dds_base.specs.declared.leaf.Leaf.{Leaf}
 use Rattle.dds_base.specs.declared.op.Order.{Order}
 use Rattle.dds_brick_rows.specs.Refusal.{is_join}
@@ -21,16 +20,15 @@ use Rattle.dds_share.proofs.Turned.{put-same}
 use Rattle.dds_pairs.proofs.NameKeeps.{AreNamed, NodeNamed, keyed-at}
 use Rattle.dds_pairs.proofs.NameTurns.{Keyed}
 use Rattle.dds_pairs.proofs.Names.{Fit, IsFit}
-use Rattle.dds_pending.proofs.Leads.{Leads, letter-leads, order-leads}
+use Rattle.dds_pending.proofs.Leads.{letter-leads, order-leads}
 use Rattle.dds_share.proofs.Opens.{order-still}
-use Rattle.dds_states.specs.Leaf.{leaf_for}
 use Rattle.dds_states.specs.Turn.{BrickTurn}
 use Rattle.dds_states.specs.declared.brick_state.BrickState.{BrickState}
 use Rattle.dds_states.specs.declared.brick_state.OpenOrder.{OpenOrder}
 use Rattle.dds_states.specs.declared.brick_state.OrderPhase.TheVariants.{Installing}
 use Rattle.dds_trie.specs.Trie.{LeafMap, put}
 use Rattle.dds_listed.proofs.Installing.{InstallsOn, goes_on, is_served, letter-installs}
-use Rattle.dds_listed.proofs.Keeps.{Before, WasSo}
+use Rattle.dds_listed.proofs.Keeps.{WasSo}
 use Rattle.dds_listed.specs.Answers.{Answers, installs, serves}
 
 -- After its turn a live brick answers for all that it answered for: its leaves cover what they covered, and what its join made is served.

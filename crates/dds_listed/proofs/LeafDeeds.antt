@@ -1,4 +1,4 @@
-use Rattle.std.proofs.Common.{◌≡◌, ℕ, ◌==◌, false, Option, Some, List, [], ◌∷◌, ap, subst}
+use Rattle.std.proofs.Common.{◌≡◌, ◌==◌, false, Option, Some, List, [], ◌∷◌, subst}
 use Rattle.std.specs.FinMap.{get, remove}
 use Rattle.std.specs.List.{AllByRecursion}
 use Rattle.dds_base.specs.declared.leaf.Leaf.{Leaf}
@@ -14,7 +14,7 @@ use Rattle.dds_orders.proofs.Deeds.{Deed, Seat, asks_more, closes, copies, drops
 use Rattle.dds_states.specs.Turn.{to_each, unknown, unknown_others}
 use Rattle.dds_states.specs.declared.brick_state.OpenOrder.{OpenOrder}
 use Rattle.dds_states.specs.declared.brick_state.OrderPhase.{OrderPhase}
-use Rattle.dds_states.specs.declared.brick_state.OrderPhase.TheVariants.{Copying, Installing}
+use Rattle.dds_states.specs.declared.brick_state.OrderPhase.TheVariants.{Installing}
 use Rattle.dds_states.specs.declared.brick_state.Task.{Task}
 use Rattle.dds_states.specs.declared.brick_state.Task.TheVariants.{Join, Split}
 use Rattle.dds_trie.specs.Trie.{LeafMap, put}

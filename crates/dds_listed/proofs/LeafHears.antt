@@ -1,4 +1,4 @@
-use Rattle.std.proofs.Common.{◌≡◌, ℕ, ◌==◌, ◌++◌, false, Some, List, [], ◌∷◌, sym, subst}
+use Rattle.std.proofs.Common.{◌≡◌, ◌==◌, false, List, [], sym, subst}
 use Rattle.std.specs.FinMap.{get}
 use Rattle.dds_base.specs.declared.leaf.Leaf.{Leaf}
 use Rattle.dds_base.specs.declared.number.NodeNo.{NodeNo}
@@ -12,7 +12,6 @@ use Rattle.dds_orders.proofs.Deeds.{Path, Seat, over, seat, step, wanted_name}
 use Rattle.dds_orders.proofs.Turns.{Hears, Turns, copies, copies_not, denies, gives, grants, grants_not, hears_other, installed_not, installs, installs_not}
 use Rattle.dds_orders.proofs.Turns.{is_installed, is_refused, learns, refused_not, releases, sends_none, sends_part}
 use Rattle.dds_states.specs.Turn.{BrickTurn, unknown}
-use Rattle.dds_states.specs.declared.brick_state.OpenOrder.{OpenOrder}
 use Rattle.dds_world.specs.Groups.{refusal_leaf}
 use Rattle.dds_listed.proofs.LeafDeeds.{AllLetters, Brings, SeatOk, deed-leaves, each-letter, its-order}
 use Rattle.dds_listed.proofs.Replaced.{in-replaced}

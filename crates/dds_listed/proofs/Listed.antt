@@ -1,4 +1,4 @@
-use Rattle.std.specs.Prelude.{ℕ, ◌≡◌, true, false}
+use Rattle.std.specs.Prelude.{ℕ, ◌≡◌, ◌≤◌, true, false}
 use Rattle.dds_base.specs.BrickList.{has}
 use Rattle.dds_base.specs.declared.leaf.Leaf.{Leaf}
 use Rattle.dds_law_leaf.proofs.Book.{InLetter, InLibrary, InMap, InOrder}
@@ -8,7 +8,7 @@ use Rattle.dds_net.specs.Net.{Net, Node, nowhere, a_brick, a_library}
 use Rattle.dds_states.specs.declared.brick_state.BrickState.{BrickState}
 use Rattle.dds_listed.specs.Answers.{Answers}
 
--- The invariant: each live brick answers for each leaf that lists it, wherever the leaf stands.
+-- The invariant: each live brick answers for each leaf that lists it, wherever the leaf stands, but for the opening's stale leaves.
 --
 -- | part | why it is needed | what keeps it |
 -- |---|---|---|
@@ -23,10 +23,10 @@ use Rattle.dds_listed.specs.Answers.{Answers}
 -- A live brick goes on to answer: its leaves cover what they covered (`leaves_change_once` and leases), and a join that installs ends by
 -- serving what it made.
 
--- of each live brick that the leaf lists
+-- of each live brick that the leaf lists, if the leaf isn't one of the stale ones of the opening, which may list any brick
 abbrev pub MembersAnswer : Net → Leaf → Type 0
 MembersAnswer n leaf =
-    (b : ℕ) (t : BrickState) → n.node b ≡ a_brick t → t.stopped ≡ false → has leaf.list b ≡ true → Answers t leaf
+    1 ≤ leaf.epoch → (b : ℕ) (t : BrickState) → n.node b ≡ a_brick t → t.stopped ≡ false → has leaf.list b ≡ true → Answers t leaf
 
 abbrev pub NodeOk : Net → ℕ → Node → Type 0
 NodeOk n k nowhere = Unit {0}

@@ -1,4 +1,4 @@
-use Rattle.std.proofs.Common.{◌≡◌, ℕ, ◌^◌, ◌<◌, ◌==◌, ◌||◌, ◌++◌, inl, inr, Bool, true, false, not, List, [], ◌∷◌, refl, sym, ap, ◌∙◌, subst}
+use Rattle.std.proofs.Common.{◌≡◌, ℕ, ◌^◌, ◌<◌, ◌==◌, ◌||◌, inl, inr, Bool, true, false, not, List, [], ◌∷◌, refl, sym, ap, ◌∙◌, subst}
 use Rattle.std.proofs.lemmas.Bool.{cases_eq, ne_eqb}
 use Rattle.std.specs.Prelude.{is_some}
 use Rattle.dds_base.specs.BrickList.{has}
@@ -63,7 +63,7 @@ pub record Covered (m : Net) (me : ℕ) (o : OpenOrder) (made : Leaf) : Type 0 w
 
 pub made-members : (m : Net) (me : ℕ) (x : Seat) (o : OpenOrder) (made : Leaf) (nodes : List NodeNo) → x.own.number ≡ me → MayBegin x o made nodes
     → Covered m me o made → MembersAnswer m made
-made-members m me x o made nodes number may c b t here live lists = elim (cases_eq b me) [
+made-members m me x o made nodes number may c new b t here live lists = elim (cases_eq b me) [
   | inl e ↦ c.maker t (ap m.node (sym e) ∙ here)
   | inr ne ↦
       let gave = who-made x o made nodes may b (λ e. ne (e ∙ number)) lists in

@@ -1,4 +1,4 @@
-use Rattle.std.proofs.Common.{◌≡◌, ℕ, ◌%◌, ◌^◌, ◌==◌, Bool, true, false, Option, Some, None, refl, sym, ap, ◌∙◌, subst}
+use Rattle.std.proofs.Common.{◌≡◌, ℕ, ◌≤◌, ◌%◌, ◌^◌, true, Option, Some, None, sym, ap, ◌∙◌, subst}
 use Rattle.std.proofs.Math.Nat.{mod-eq_of_lt}
 use Rattle.std.proofs.lemmas.Bool.{both_ways, eq-eqb}
 use Rattle.std.specs.FinMap.{get}
@@ -45,8 +45,12 @@ answers-not j s p leaf both there join none name named (installs o is joins fixe
     let same : o ≡ p = the-order o p (sym is ∙ there) in
     none-some o.leaf (ap (λ (x : OpenOrder). x.leaf) same ∙ none) fixed
 
-pub joiners-unlisted : (z : Sizes) (n : Net) → AreNamed z n → ((k : ℕ) → NodeFits k (n.node k)) → AllAnswer n → JoinersAreUnlisted n
-joiners-unlisted z n g fits h j m s t p leaf here there live lives other is none at =
+-- no own leaf is one of the opening's stale ones
+abbrev pub OwnAreNew : Net → Type 0
+OwnAreNew n = (k : ℕ) (s : BrickState) (at : Name) (leaf : Leaf) → n.node k ≡ a_brick s → get s.leaves at ≡ Some leaf → 1 ≤ leaf.epoch
+
+pub joiners-unlisted : (z : Sizes) (n : Net) → AreNamed z n → ((k : ℕ) → NodeFits k (n.node k)) → OwnAreNew n → AllAnswer n → JoinersAreUnlisted n
+joiners-unlisted z n g fits new h j m s t p leaf here there live lives other is none at =
     let both : IsBoth j (own s) = subst (law_own.NodeOk j) here (g.copied.own j) in
     let its : IsBoth m (own t) = subst (law_own.NodeOk m) there (g.copied.own m) in
     let named : Fit t = subst (NodeNamed m) there (g.nodes m) in
@@ -56,4 +60,4 @@ joiners-unlisted z n g fits h j m s t p leaf here there live lives other is none
     let answer : MembersAnswer n leaf = each-is (MembersAnswer n) (get t.leaves p.name) leaf at (ok.0 p.name) in
     false-of (has leaf.list j) (λ lists.
     answers-not j s p leaf both is ((fit p is).joins none) none name (each-is IsFit (get t.leaves p.name) leaf at (named.is.0 p.name))
-    (answer j s here live lists))
+    (answer (new m t p.name leaf there at) j s here live lists))

@@ -2,8 +2,9 @@
 
 ghost use Rattle.dds_listed.specs.Law.{JoinsAreUnlisted};
 
-/// In each world of each run, with stops, splits and joins, provided that in that world live members answer for the leaves that list them:
-/// wherever a leaf stands that has the name of a live brick's open join without a leaf, it doesn't list that brick.
+/// In each world of each run, with stops, splits and joins, provided that in that world live members answer for such leaves that list them:
+/// wherever a leaf stands that isn't one of the opening's stale ones, and has the name of a live brick's open join without a leaf, it
+/// doesn't list that brick.
 pub fn joins_are_unlisted()
     ensures { JoinsAreUnlisted }
 {}
