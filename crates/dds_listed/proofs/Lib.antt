@@ -1,0 +1,13 @@
+pub mod Listed
+pub mod Unlisted
+pub mod Keeps
+pub mod Installing
+pub mod Later
+pub mod Granted
+pub mod Siblings
+pub mod Replaced
+pub mod SiblingMembers
+pub mod Made
+pub mod LeafDeeds
+pub mod LeafHears
+pub mod Worlds
