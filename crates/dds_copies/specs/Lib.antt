@@ -1,4 +1,5 @@
 pub mod Law
 pub mod Copies
+pub mod Turns
 pub mod Ends
 pub mod Sources

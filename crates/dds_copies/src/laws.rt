@@ -3,6 +3,7 @@
 ghost use Rattle.dds_copies.specs.Ends.{JoinsEndWithTheTable};
 ghost use Rattle.dds_copies.specs.Law.{CopyingKeepsTheTable};
 ghost use Rattle.dds_copies.specs.Sources.{SourcesSendTheTable};
+ghost use Rattle.dds_copies.specs.Turns.{TurnsKeepCopies};
 
 /// Of each table, each state of a brick and each order: where a source holds the table under a join's name, it answers with the next part of
 /// the table's pairs; a part that comes keeps what was copied a beginning of them, and all of them behind the last one, and so does an
@@ -21,4 +22,10 @@ pub fn joins_end_with_the_table()
 /// pairs behind the last one that a join has copied it sends the next part of the table's pairs under the join's name, or nothing.
 pub fn sources_send_the_table()
     ensures { SourcesSendTheTable }
+{}
+
+/// Of each table, each state of a brick, each letter and each order that comes: where what its open join has copied is the table's, and what
+/// it hears of its source is the next part, what its open join has copied is the table's behind its turn, and what it asks for is what follows.
+pub fn turns_keep_what_is_copied()
+    ensures { TurnsKeepCopies }
 {}
