@@ -7,6 +7,7 @@ pub mod Joins
 pub mod OrderRows
 pub mod OtherRows
 pub mod Turns
+pub mod Tells
 pub mod Finishes
 pub mod Steps
 pub mod Ends

@@ -3,7 +3,7 @@
 ghost use Rattle.dds_copies.specs.Ends.{JoinsEndWithTheTable};
 ghost use Rattle.dds_copies.specs.Law.{CopyingKeepsTheTable};
 ghost use Rattle.dds_copies.specs.Sources.{SourcesSendTheTable};
-ghost use Rattle.dds_copies.specs.Turns.{TurnsKeepCopies};
+ghost use Rattle.dds_copies.specs.Turns.{TurnsKeepCopies, TurnsTellNext};
 
 /// Of each table, each state of a brick and each order: where a source holds the table under a join's name, it answers with the next part of
 /// the table's pairs; a part that comes keeps what was copied a beginning of them, and all of them behind the last one, and so does an
@@ -28,4 +28,10 @@ pub fn sources_send_the_table()
 /// it hears of its source is the next part, what its open join has copied is the table's behind its turn, and what it asks for is what follows.
 pub fn turns_keep_what_is_copied()
     ensures { TurnsKeepCopies }
+{}
+
+/// Of each table, each state of a brick, each letter and each order that comes, and each join of another brick: where a letter of that join
+/// asks for the next part, and the brick holds the table under the join's name if it answers, it tells that join the next part, or nothing.
+pub fn turns_tell_what_is_next()
+    ensures { TurnsTellNext }
 {}
