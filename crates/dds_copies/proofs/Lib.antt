@@ -8,6 +8,8 @@ pub mod OrderRows
 pub mod OtherRows
 pub mod Turns
 pub mod Tells
+pub mod Outside
+pub mod Stops
 pub mod Finishes
 pub mod Steps
 pub mod Ends

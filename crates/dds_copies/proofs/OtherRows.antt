@@ -148,7 +148,8 @@ helped_by : (s : BrickState) (y : NodeNo) (txn : Txn) (list fs : List ℕ) → L
 helped_by s y txn list [] = plain _ refl tt
 helped_by s y txn list (f ∷ fs) =
     leaves-if (f == s.number) (resolve s txn list)
-    (leaves-if (y == txn.library || has (resolution.before list f) y) (plain (sends s ((f, letter.Help txn list) ∷ [])) refl (refl, tt)) (plain (still s) refl tt))
+    (leaves-if (y == txn.library || has (resolution.before list f) y) (plain (sends s ((f, letter.Help txn list) ∷ [])) refl (refl, tt))
+    (plain (still s) refl tt))
 
 pending_goes : (s : BrickState) (y : NodeNo) (txn : Txn) (list : List ℕ) → Leaves s (notices.pending_goes s y txn list)
 pending_goes s y txn list =

@@ -2,6 +2,7 @@
 
 ghost use Rattle.dds_copies.specs.Ends.{JoinsEndWithTheTable};
 ghost use Rattle.dds_copies.specs.Law.{CopyingKeepsTheTable};
+ghost use Rattle.dds_copies.specs.Outside.{JoinsCopyOn};
 ghost use Rattle.dds_copies.specs.Sources.{SourcesSendTheTable};
 ghost use Rattle.dds_copies.specs.Turns.{TurnsKeepCopies, TurnsTellNext};
 
@@ -34,4 +35,10 @@ pub fn turns_keep_what_is_copied()
 /// asks for the next part, and the brick holds the table under the join's name if it answers, it tells that join the next part, or nothing.
 pub fn turns_tell_what_is_next()
     ensures { TurnsTellNext }
+{}
+
+/// Of each cluster's nodes and what is on its way between them: points of keys outside the name of each bound join keep what the bound joins
+/// have copied, and so does a node that stops.
+pub fn joins_copy_on()
+    ensures { JoinsCopyOn }
 {}
