@@ -29,7 +29,7 @@ pub record Goes (table : Map) (o : OpenOrder) (t : BrickTurn) : Type 0 where
 one-is : (table : Map) (p o : OpenOrder) → AreCopied table p p.phase → Some p ≡ Some o → AreCopied table o o.phase
 one-is table p o h e = let is : p ≡ o = cc in subst (λ (q : OpenOrder). AreCopied table q q.phase) is h
 
-asks-each : (o : OpenOrder) (nodes : List NodeNo) (l : Letter) → AsksNext o l → AllByRecursion (λ (p : NodeNo × Letter). AsksNext o p.1) (to_each nodes l)
+pub asks-each : (o : OpenOrder) (nodes : List NodeNo) (l : Letter) → AsksNext o l → AllByRecursion (λ (p : NodeNo × Letter). AsksNext o p.1) (to_each nodes l)
 asks-each o [] l h = tt
 asks-each o (n ∷ ns) l h = (h, asks-each o ns l h)
 

@@ -4,6 +4,12 @@ pub mod Sources
 pub mod Leased
 pub mod Points
 pub mod Joins
+pub mod OrderRows
+pub mod OtherRows
+pub mod Turns
+pub mod Tells
+pub mod Outside
+pub mod Stops
 pub mod Finishes
 pub mod Steps
 pub mod Ends

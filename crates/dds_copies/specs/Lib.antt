@@ -1,4 +1,6 @@
 pub mod Law
 pub mod Copies
+pub mod Turns
+pub mod Outside
 pub mod Ends
 pub mod Sources

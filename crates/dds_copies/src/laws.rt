@@ -2,7 +2,9 @@
 
 ghost use Rattle.dds_copies.specs.Ends.{JoinsEndWithTheTable};
 ghost use Rattle.dds_copies.specs.Law.{CopyingKeepsTheTable};
+ghost use Rattle.dds_copies.specs.Outside.{JoinsCopyOn};
 ghost use Rattle.dds_copies.specs.Sources.{SourcesSendTheTable};
+ghost use Rattle.dds_copies.specs.Turns.{TurnsKeepCopies, TurnsTellNext};
 
 /// Of each table, each state of a brick and each order: where a source holds the table under a join's name, it answers with the next part of
 /// the table's pairs; a part that comes keeps what was copied a beginning of them, and all of them behind the last one, and so does an
@@ -21,4 +23,22 @@ pub fn joins_end_with_the_table()
 /// pairs behind the last one that a join has copied it sends the next part of the table's pairs under the join's name, or nothing.
 pub fn sources_send_the_table()
     ensures { SourcesSendTheTable }
+{}
+
+/// Of each table, each state of a brick, each letter and each order that comes: where what its open join has copied is the table's, and what
+/// it hears of its source is the next part, what its open join has copied is the table's behind its turn, and what it asks for is what follows.
+pub fn turns_keep_what_is_copied()
+    ensures { TurnsKeepCopies }
+{}
+
+/// Of each table, each state of a brick, each letter and each order that comes, and each join of another brick: where a letter of that join
+/// asks for the next part, and the brick holds the table under the join's name if it answers, it tells that join the next part, or nothing.
+pub fn turns_tell_what_is_next()
+    ensures { TurnsTellNext }
+{}
+
+/// Of each cluster's nodes and what is on its way between them: points of keys outside the name of each bound join keep what the bound joins
+/// have copied, and so does a node that stops.
+pub fn joins_copy_on()
+    ensures { JoinsCopyOn }
 {}
