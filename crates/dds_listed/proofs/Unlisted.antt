@@ -13,7 +13,8 @@ use Rattle.dds_law_own.proofs.Keeps as law_own
 use Rattle.dds_law_own.proofs.Parted.{IsBoth}
 use Rattle.dds_net.specs.Net.{Net, Sizes, a_brick}
 use Rattle.dds_order_talk.proofs.BrickSide.{Fits}
-use Rattle.dds_order_talk.proofs.Fitting.{JoinersAreUnlisted, NodeFits}
+use Rattle.dds_order_talk.proofs.Fitting.{NodeFits}
+use Rattle.dds_order_talk.specs.Seen.{JoinersAreUnlisted}
 use Rattle.dds_orders.proofs.Covered.{false-of}
 use Rattle.dds_orders.proofs.Numbers.{the-order}
 use Rattle.dds_pairs.proofs.Apart.{covered-apart}

@@ -20,14 +20,14 @@ use Rattle.dds_net.specs.Event.{Event, nothing, unheard, unasked, brick_takes, b
 use Rattle.dds_net.specs.Event.{Takes, moved}
 use Rattle.dds_net.specs.Event as event
 use Rattle.dds_net.specs.Net.{Net, Node, nowhere, a_brick, a_library, Sizes}
-use Rattle.dds_order_talk.proofs.Fitting.{JoinersAreUnlisted, NodeFits, fits-kept, wanted-of}
+use Rattle.dds_order_talk.proofs.Fitting.{NodeFits, fits-kept, wanted-of}
 use Rattle.dds_order_talk.proofs.Givers.{AreGiven, given-kept}
 use Rattle.dds_order_talk.proofs.Letters.{AreWithin}
 use Rattle.dds_order_talk.proofs.MemberHears.{sent}
 use Rattle.dds_order_talk.proofs.TalkKeeps.{MayTake, talks-kept}
 use Rattle.dds_order_talk.proofs.Talking as talking
 use Rattle.dds_order_talk.proofs.Talking.{Talking, stood-at, with-of}
-use Rattle.dds_order_talk.specs.Seen.{New, Own, is_its, is_named, says}
+use Rattle.dds_order_talk.specs.Seen.{JoinersAreUnlisted, New, Own, is_its, is_named, says}
 use Rattle.dds_order_talk.specs.Table.Say.{installed}
 use Rattle.dds_order_rows.specs.OwnOrder.{is_leasing}
 use Rattle.dds_orders.proofs.Asked.{AskedBy}

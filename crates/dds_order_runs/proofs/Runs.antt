@@ -24,7 +24,6 @@ use Rattle.dds_net.proofs.Prefixes.{run-take}
 use Rattle.dds_net.proofs.Runs.{net-built, run-keeps, sized-run}
 use Rattle.dds_net.specs.Net.{Net, Node, net, sizes_of}
 use Rattle.dds_order_rows.specs.OwnOrder.{is_leasing}
-use Rattle.dds_order_talk.proofs.Fitting.{JoinersAreUnlisted}
 use Rattle.dds_order_talk.proofs.Holds as holds
 use Rattle.dds_order_talk.proofs.Holds.{both-live, granted-holds, name-self}
 use Rattle.dds_order_talk.proofs.Lines.{granted-leaf}
@@ -32,7 +31,7 @@ use Rattle.dds_order_talk.proofs.Moves.{Tells}
 use Rattle.dds_order_talk.proofs.Letters.{BrickOk, NodeOk}
 use Rattle.dds_order_talk.proofs.Runs.{run-within}
 use Rattle.dds_order_talk.proofs.TalkBegins.{orders-talk-of, start-fits, start-given, start-talks}
-use Rattle.dds_order_talk.specs.Seen.{New, Own, phase_view, rests, with_leaf}
+use Rattle.dds_order_talk.specs.Seen.{JoinersAreUnlisted, New, Own, phase_view, rests, with_leaf}
 use Rattle.dds_order_talk.specs.Seen.{view as view_of}
 use Rattle.dds_order_talk.specs.Table.{Ask, Say, Talk, View}
 use Rattle.dds_order_talk.specs.Table.View.{Off, Due, Done}

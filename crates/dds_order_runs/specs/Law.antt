@@ -8,8 +8,7 @@ use Rattle.dds_cluster.specs.Trace.{is_run}
 use Rattle.dds_cluster.specs.declared.step.Step.{Step}
 use Rattle.dds_locks.specs.Leases.{is_given}
 use Rattle.dds_net.specs.Net.{net, sizes_of}
-use Rattle.dds_order_talk.proofs.Fitting.{JoinersAreUnlisted}
-use Rattle.dds_order_talk.specs.Seen.{New, OrdersTalk, Own}
+use Rattle.dds_order_talk.specs.Seen.{JoinersAreUnlisted, New, OrdersTalk, Own}
 use Rattle.dds_script.specs.Opening.{IsOpening, OpeningOf}
 use Rattle.dds_states.specs.declared.brick_state.BrickState.{BrickState}
 use Rattle.dds_states.specs.declared.brick_state.OpenOrder.{OpenOrder}

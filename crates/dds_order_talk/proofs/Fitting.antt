@@ -34,6 +34,7 @@ use Rattle.dds_order_talk.proofs.Letters.{AreWithin, Asked}
 use Rattle.dds_order_talk.proofs.Members.{Asks}
 use Rattle.dds_order_talk.proofs.Sendings.{Once}
 use Rattle.dds_order_talk.proofs.Talking.{Wanted}
+use Rattle.dds_order_talk.specs.Seen.{JoinersAreUnlisted}
 
 -- Each event keeps what is wanted of open orders, if leaves list each member once.
 
@@ -93,12 +94,6 @@ becomes z cs n (library_stops at s kept) few some f w v g o h = tt
 pub fits-kept : (z : Sizes) (cs : List Caller) (n : Net) (e : Event) → z.bricks ≤ 64 → z.libraries ≤ 16 → event.Fits z cs n e → AreStood z n
     → AreWithin n → AreGiven n → ListOnce z n → ((k : ℕ) → NodeFits k (n.node k)) → (k : ℕ) → NodeFits k ((moved z n e).node k)
 fits-kept z cs n e few some f w v g o h = nodes-moved NodeFits z n e h (becomes z cs n e few some f w v g o h)
-
--- where a join's name is that of a live member's leaf, the leaf doesn't list the live brick that joins
-abbrev pub JoinersAreUnlisted : Net → Type 0
-JoinersAreUnlisted n =
-    (j m : ℕ) (s t : BrickState) (p : OpenOrder) (leaf : Leaf) → n.node j ≡ a_brick s → n.node m ≡ a_brick t → s.stopped ≡ false
-    → t.stopped ≡ false → (m ≡ j → ⊥) → s.order ≡ Some p → p.leaf ≡ None → get t.leaves p.name ≡ Some leaf → has leaf.list j ≡ false
 
 -- so this is what is wanted of a world, from the laws of which each event keeps some, and from two others
 pub wanted-of : (z : Sizes) (n : Net) → AreStood z n → AreWithin n → AreGiven n → ((k : ℕ) → NodeFits k (n.node k)) → ListOnce z n

@@ -131,3 +131,9 @@ abbrev pub OrdersTalk : Net → Type 0
 OrdersTalk n =
     (j m : ℕ) (x : Name) (s t : BrickState)
     → n.node j ≡ a_brick s → n.node m ≡ a_brick t → (j == m) ≡ false → BrickTalk rests j m x s t (n.channel j m) (n.channel m j)
+
+-- where a live brick joins a name and has no leaf of it yet, no live other brick's leaf of that name lists the brick that joins
+abbrev pub JoinersAreUnlisted : Net → Type 0
+JoinersAreUnlisted n =
+    (j m : ℕ) (s t : BrickState) (p : OpenOrder) (leaf : Leaf) → n.node j ≡ a_brick s → n.node m ≡ a_brick t → s.stopped ≡ false
+    → t.stopped ≡ false → (m ≡ j → ⊥) → s.order ≡ Some p → p.leaf ≡ None → get t.leaves p.name ≡ Some leaf → has leaf.list j ≡ false
