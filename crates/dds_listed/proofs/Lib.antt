@@ -8,6 +8,8 @@ pub mod Siblings
 pub mod Replaced
 pub mod SiblingMembers
 pub mod Made
-pub mod LeafDeeds
-pub mod LeafHears
+pub mod Begun
+pub mod OrderTrips
+pub mod Makes
+pub mod OrderTurns
 pub mod Worlds

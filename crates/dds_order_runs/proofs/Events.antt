@@ -44,7 +44,7 @@ use Rattle.dds_pairs.proofs.Names.{Fit}
 use Rattle.dds_states.specs.declared.brick_state.BrickState.{BrickState}
 use Rattle.dds_states.specs.declared.brick_state.OpenOrder.{OpenOrder}
 use Rattle.dds_order_runs.proofs.Grants.{granted-told}
-use Rattle.dds_order_runs.proofs.Makes.{OrderMakes, heard-makes, none-makes, path-makes}
+use Rattle.dds_listed.proofs.Makes.{OrderMakes, heard-makes, none-makes, path-makes}
 use Rattle.dds_order_runs.proofs.Placed.{lists-once}
 use Rattle.dds_order_runs.proofs.Told.{installs-it, order-of, phase-of}
 

@@ -1,4 +1,3 @@
-pub mod Makes
 pub mod Installs
 pub mod Grants
 pub mod Placed
