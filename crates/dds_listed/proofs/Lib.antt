@@ -10,4 +10,6 @@ pub mod SiblingMembers
 pub mod Made
 pub mod LeafDeeds
 pub mod LeafHears
+pub mod Fresh
+pub mod Tells
 pub mod Worlds
