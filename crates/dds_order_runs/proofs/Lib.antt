@@ -5,3 +5,4 @@ pub mod Placed
 pub mod Told
 pub mod Events
 pub mod Runs
+pub mod Group
