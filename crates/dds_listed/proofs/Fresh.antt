@@ -1,12 +1,9 @@
-use Rattle.std.proofs.Common.{◌≡◌, ℕ, ◌+◌, ◌≤◌, ◌==◌, ◌&&◌, ◌||◌, Bool, true, false, not, Option, Some, None, List, [], ◌∷◌, refl, sym, ap, subst}
+use Rattle.std.proofs.Common.{◌≡◌, ℕ, ◌+◌, ◌≤◌, true, List, [], ◌∷◌, sym, ap, subst}
 use Rattle.std.proofs.Common.{arith}
-use Rattle.std.proofs.lemmas.Bool.{and_parts, eqb-true}
 use Rattle.std.specs.FinMap.{get}
 use Rattle.std.specs.List.{AllByRecursion}
-use Rattle.std.specs.Prelude.{filter, is_some, if◌then◌else◌}
+use Rattle.std.specs.Prelude.{filter}
 use Rattle.dds_base.specs.BrickList.{has}
-use Rattle.dds_base.specs.Name.{Name}
-use Rattle.dds_base.specs.NodeSet.{has_node}
 use Rattle.dds_base.specs.declared.leaf.Leaf.{Leaf}
 use Rattle.dds_base.specs.declared.number.NodeNo.{NodeNo}
 use Rattle.dds_cluster.proofs.Sizes.{sized-start}
@@ -14,21 +11,14 @@ use Rattle.dds_cluster.specs.Trace.{is_run, start}
 use Rattle.dds_cluster.specs.World.{new_brick}
 use Rattle.dds_cluster.specs.declared.step.Step.{Step}
 use Rattle.dds_cluster.specs.declared.trace.Caller.{Caller}
-use Rattle.dds_core.proofs.Lists.{all-append, all-filter, all-map}
-use Rattle.dds_core.specs.Brick.{live_brick_turn}
-use Rattle.dds_groups.proofs.Steps.{successor-epoch}
-use Rattle.dds_groups.specs.Leaves.{newer, same_stamp, successor}
-use Rattle.dds_groups.specs.Take.{is_better_rival, maker_known}
-use Rattle.dds_groups.specs.declared.successor.Change.{Change}
-use Rattle.dds_law_leaf.proofs.Book.{Each, InLetter, InMap, InOrder}
+use Rattle.dds_core.proofs.Lists.{all-filter, all-map}
+use Rattle.dds_law_leaf.proofs.Book.{InMap, InOrder}
 use Rattle.dds_law_leaf.proofs.Maps.{each-is, in-all, in-empty}
 use Rattle.dds_law_own.proofs.Changes.{own}
 use Rattle.dds_law_own.proofs.Keeps as law_own
 use Rattle.dds_law_own.proofs.Keeps.{of-another}
 use Rattle.dds_law_own.proofs.Parted.{IsBoth}
 use Rattle.dds_letters.specs.declared.letter.Letter.{Letter}
-use Rattle.dds_letters.specs.declared.letter.Letter.TheVariants as letter
-use Rattle.dds_maps.specs.Own.{own_leaf, whole}
 use Rattle.dds_net.proofs.Carried.{AllCarried, Becomes, News, Sends, letters-moved, nodes-moved}
 use Rattle.dds_net.proofs.Letters.{first-all}
 use Rattle.dds_net.proofs.Opening.{IsNew, new_a_brick, new_a_library, no_node, start-channel, start-node}
@@ -36,27 +26,15 @@ use Rattle.dds_net.proofs.Runs.{IsKept, run-keeps}
 use Rattle.dds_net.specs.Event.{Event, nothing, unheard, unasked, brick_takes, brick_told, brick_stops, library_takes, library_asked, library_stops}
 use Rattle.dds_net.specs.Event.{Fits, moved}
 use Rattle.dds_net.specs.Net.{Net, Node, nowhere, a_brick, a_library, Sizes, lands, net, sizes_of}
-use Rattle.dds_order_rows.specs.OwnOrder as order
-use Rattle.dds_orders.proofs.Deeds.{AreOthers, Deed, Leaves, Seat, Staged, Trip, arrives, asks_more, closes, copies, copies_none, does_next, drops}
-use Rattle.dds_orders.proofs.Deeds.{Stage, fixes, is_of_orders, joins, leaf_owed, loses, makes, nothing_owed, owed_at, pends, refuses, says}
-use Rattle.dds_orders.proofs.Deeds.{seat, serves, splits, splits_none, stays, takes}
+use Rattle.dds_orders.proofs.Deeds.{seat}
 use Rattle.dds_orders.proofs.LibraryLetters.{asked-others, library-others}
-use Rattle.dds_orders.proofs.Turns.{Hears, Turns, letter-turns, order-goes, owed}
-use Rattle.dds_orders.proofs.Turns.{denies, grants, installs}
+use Rattle.dds_orders.proofs.Turns.{letter-turns, order-goes}
 use Rattle.dds_pairs.proofs.NameKeeps.{AreNamed, named-kept, start-names}
 use Rattle.dds_script.specs.Opening.{AreOpeningLeaves, IsOpening, OpeningOf}
-use Rattle.dds_states.specs.declared.brick_state.BrickState.{BrickState}
-use Rattle.dds_states.specs.declared.brick_state.OpenOrder.{OpenOrder}
-use Rattle.dds_states.specs.declared.brick_state.OrderPhase.{OrderPhase}
-use Rattle.dds_states.specs.declared.brick_state.OrderPhase.TheVariants.{Installing}
-use Rattle.dds_states.specs.declared.brick_state.Task.{Task}
-use Rattle.dds_states.specs.declared.brick_state.Task.TheVariants.{Join, Split}
-use Rattle.dds_trie.specs.Trie.{LeafMap, or_else}
-use Rattle.dds_world.specs.Groups.{made_leaf}
 use Rattle.dds_world.specs.Places.{reached}
-use Rattle.dds_listed.proofs.LeafDeeds.{AllLetters, Beside, SeatOk, deed-leaves, its-order}
-use Rattle.dds_listed.proofs.LeafHears.{heard-leaves}
+use Rattle.dds_listed.proofs.LeafDeeds.{SeatOk}
 use Rattle.dds_listed.proofs.Unlisted.{OwnAreNew}
+use Rattle.dds_listed.proofs.FreshTurns.{FreshLetter, FreshLetters, IsFresh, letter-fresh, others-fresh, trip-fresh}
 
 -- No leaf of a brick is one of the opening's stale leaves, which libraries alone have.
 --
@@ -69,167 +47,6 @@ use Rattle.dds_listed.proofs.Unlisted.{OwnAreNew}
 -- | `letters`: Granted, and Lease | a join's leaf comes from Granted   | Lease and Install tell an order's leaf, Granted an own one               |
 -- | and Install                   |                                    |                                                                          |
 
-abbrev pub IsFresh : Leaf → Type 0
-IsFresh leaf = 1 ≤ leaf.epoch
-
--- the letters of orders but for refusals
-abbrev pub FreshLetter : Letter → Type 0
-FreshLetter (letter.Lease number what) = InLetter IsFresh (letter.Lease number what)
-FreshLetter (letter.Granted number leaf) = IsFresh leaf
-FreshLetter (letter.Install number leaf) = IsFresh leaf
-FreshLetter other = Unit {0}
-
-abbrev pub FreshLetters : List (NodeNo × Letter) → Type 0
-FreshLetters ls = AllByRecursion (λ (p : NodeNo × Letter). FreshLetter p.1) ls
-
--- the leaf that came with a first grant
-abbrev OwesFresh : Stage → Type 0
-OwesFresh (leaf_owed from leaf) = IsFresh leaf
-OwesFresh other = Unit {0}
-
--- letters
-of-all : (l : Letter) → InLetter IsFresh l → FreshLetter l
-of-all (letter.Lease number what) h = h
-of-all (letter.Granted number leaf) h = h
-of-all (letter.Install number leaf) h = h
-of-all other h = tt
-
-all-fresh : (ls : List (NodeNo × Letter)) → AllLetters IsFresh ls → FreshLetters ls
-all-fresh ls h = all-map (λ (p : NodeNo × Letter). InLetter IsFresh p.1) (λ p. FreshLetter p.1) ls (λ p k. of-all p.1 k) h
-
-of-other : (l : Letter) → is_of_orders l ≡ false → FreshLetter l
-of-other (letter.Lease number what) h = cc
-of-other (letter.Granted number leaf) h = cc
-of-other (letter.Install number leaf) h = cc
-of-other other h = tt
-
-others-fresh : (ls : List (NodeNo × Letter)) → AreOthers ls → FreshLetters ls
-others-fresh ls h = all-map (λ (p : NodeNo × Letter). is_of_orders p.1 ≡ false) (λ p. FreshLetter p.1) ls (λ p k. of-other p.1 k) h
-
--- a leaf in the place of an own one
-after-one : (n m : ℕ) → n ≡ m + 1 → 1 ≤ n
-after-one n m e = omega (arith, e)
-
-pub successor-fresh : (mine leaf : Leaf) (q : Option Change) → successor mine leaf ≡ q → is_some q ≡ true → IsFresh leaf
-successor-fresh mine leaf None e h = cc
-successor-fresh mine leaf (Some change) e h = after-one leaf.epoch mine.epoch (successor-epoch mine leaf change e)
-
-rival-epoch : (known : ℕ → Bool) (mine leaf : Leaf) → is_better_rival known mine leaf ≡ true → mine.epoch ≡ leaf.epoch
-rival-epoch known mine leaf h =
-    let one = same_stamp mine.prev leaf.prev in
-    let two = mine.epoch == leaf.epoch in
-    let three = not (same_stamp mine.stamp leaf.stamp) in
-    let four = maker_known known mine.stamp in
-    let a = and_parts (one && two && three && four) (newer leaf mine) h in
-    let b = and_parts (one && two && three) four a.0 in
-    let c = and_parts (one && two) three b.0 in
-    eqb-true mine.epoch leaf.epoch (and_parts one two c.0).1
-
-pub comes-fresh : (known : ℕ → Bool) (mine leaf : Leaf) → (is_some (successor mine leaf) || is_better_rival known mine leaf) ≡ true → IsFresh mine
-    → IsFresh leaf
-comes-fresh known mine leaf comes h = by (is_some (successor mine leaf)) refl comes
-  where
-    by : (c : Bool) → is_some (successor mine leaf) ≡ c → (c || is_better_rival known mine leaf) ≡ true → IsFresh leaf
-    by true e i = successor-fresh mine leaf (successor mine leaf) refl e
-    by false e i = subst (λ n. 1 ≤ n) (rival-epoch known mine leaf i) h
-
-own-if : (P : Leaf → Type 0) (m : LeafMap) (n : Name) (x : Option Leaf) (c : Bool) → Each P x → Each P (get m (whole n))
-    → Each P (or_else x (if c then None else get m (whole n)))
-own-if P m n (Some l) c h k = h
-own-if P m n None true h k = tt
-own-if P m n None false h k = k
-
-pub in-own : (P : Leaf → Type 0) (m : LeafMap) (n : Name) (mine : Leaf) → own_leaf m n ≡ Some mine → InMap P m → P mine
-in-own P m n mine e h = each-is P (own_leaf m n) mine e (own-if P m n (get m n) (n.depth == 0) (h n) (h (whole n)))
-
--- what an order makes
-pub made-fresh : (s : BrickState) (o : OpenOrder) (leaf : Leaf) (t : Task) → IsFresh (order.made_leaf s o leaf t)
-made-fresh s o leaf (Join via) = after-one (leaf.epoch + 1) leaf.epoch refl
-made-fresh s o leaf Split = after-one (leaf.epoch + 1) leaf.epoch refl
-
-was-fresh : (p : OrderPhase) (made : Leaf) → p ≡ Installing made → Each IsFresh (made_leaf p) → IsFresh made
-was-fresh p made e h = subst (λ i. Each IsFresh (made_leaf i)) e h
-
-beside-fresh : (made : Leaf) (t : Task) → IsFresh made → Beside IsFresh made t
-beside-fresh made (Join via) h = tt
-beside-fresh made Split h = h
-
--- after a deed
-record Fresh (y : Seat) (ls : List (NodeNo × Letter)) (b : Stage) : Type 0 where
-  seat_ok : SeatOk IsFresh y
-  letters : FreshLetters ls
-  owes : OwesFresh b
-
-fresh : {y : Seat} {ls : List (NodeNo × Letter)} {b : Stage} → SeatOk IsFresh y × AllLetters IsFresh ls → OwesFresh b → Fresh y ls b
-fresh {ls = ls} h k = record { seat_ok = h.0; letters = all-fresh ls h.1; owes = k }
-
-none-owed : (b : Stage) → b ≡ nothing_owed → OwesFresh b
-none-owed b e = subst OwesFresh (sym e) tt
-
-left-owed : (x : Seat) (a b : Stage) → Leaves x a b → OwesFresh a → OwesFresh b
-left-owed x a b (stays e) h = subst OwesFresh e h
-left-owed x a b (refuses e f) h = none-owed b f
-left-owed x a b (copies_none o is none e f) h = none-owed b f
-left-owed x a b (splits_none o is none e f) h = none-owed b f
-
-deed-fresh : (a b : Stage) (x y : Seat) (ls : List (NodeNo × Letter)) (d : Deed x ls y) → Staged a b d → OwesFresh a → SeatOk IsFresh x → Fresh y ls b
-deed-fresh a b x _ _ (says ls others) q o h = record { seat_ok = h; letters = others-fresh ls others; owes = left-owed x a b q o }
-deed-fresh a b x _ _ (takes mine leaf may) q o h =
-    let its = comes-fresh (has_node x.own.known) mine leaf may.comes (in-own IsFresh x.own.leaves leaf.name mine may.there h.0) in
-    fresh (deed-leaves IsFresh x _ _ (takes mine leaf may) (its, λ e. its) h) (none-owed b q.1)
-deed-fresh a b x _ _ (pends p may) q o h = fresh (deed-leaves IsFresh x _ _ (pends p may) tt h) (none-owed b q.1)
-deed-fresh a b x _ _ (drops txn) q o h = fresh (deed-leaves IsFresh x _ _ (drops txn) tt h) (none-owed b q.1)
-deed-fresh a b x _ _ (joins name via may) q o h = fresh (deed-leaves IsFresh x _ _ (joins name via may) tt h) (none-owed b q.1)
-deed-fresh a b x _ _ (splits leaf may) q o h = fresh (deed-leaves IsFresh x _ _ (splits leaf may) tt h) (none-owed b q.1)
-deed-fresh a b x _ _ (loses p y there known) q o h = fresh (deed-leaves IsFresh x _ _ (loses p y there known) tt h) (none-owed b q.1)
-deed-fresh a b x _ _ (fixes p from leaf there may) q o h =
-    fresh (deed-leaves IsFresh x _ _ (fixes p from leaf there may) (subst OwesFresh q.0 o) h) (none-owed b q.1)
-deed-fresh a b x _ _ (copies p leaf source there may) q o h =
-    fresh (deed-leaves IsFresh x _ _ (copies p leaf source there may) tt h) (none-owed b q.1)
-deed-fresh a b x _ _ (asks_more p source there phase) q o h =
-    fresh (deed-leaves IsFresh x _ _ (asks_more p source there phase) tt h) (none-owed b q.1)
-deed-fresh a b x _ _ (makes p made nodes there may) q o h =
-    let its : IsFresh made = subst IsFresh (sym may.may.is) (made-fresh may.may.state p may.may.leaf p.task) in
-    fresh (deed-leaves IsFresh x _ _ (makes p made nodes there may) its h) (none-owed b q.1)
-deed-fresh a b x _ _ (closes p there) q o h = fresh (deed-leaves IsFresh x _ _ (closes p there) tt h) (none-owed b q.next)
-deed-fresh a b x _ _ (serves p made there phase) q o h =
-    let its = was-fresh p.phase made phase (its-order IsFresh x.own.order p there h.1).1 in
-    fresh (deed-leaves IsFresh x _ _ (serves p made there phase) (beside-fresh made p.task its) h) (none-owed b q.1)
-
-abbrev Kept : Seat → List (NodeNo × Letter) → Type 0
-Kept y ls = SeatOk IsFresh y × FreshLetters ls
-
-trip-fresh : {a b : Stage} {x y : Seat} {ls : List (NodeNo × Letter)} → Trip a x ls b y → OwesFresh a → SeatOk IsFresh x → Kept y ls
-trip-fresh (arrives _ _) o h = (h, tt)
-trip-fresh (does_next a b c x y z ls ms d q w) o h =
-    let k = deed-fresh a b x y ls d q o h in
-    let r = trip-fresh w k.owes k.seat_ok in
-    (r.0, all-append (λ (p : NodeNo × Letter). FreshLetter p.1) ls ms k.letters r.1)
-
-owed-fresh : (q : Option Leaf) (from : NodeNo) (leaf : Leaf) → IsFresh leaf → OwesFresh (owed_at q from leaf)
-owed-fresh None from leaf h = h
-owed-fresh (Some fixed) from leaf h = tt
-
-hear-fresh : (from : NodeNo) (x y : Seat) (l : Letter) (ls : List (NodeNo × Letter)) (h : Hears from x l ls y) → FreshLetter l → SeatOk IsFresh x
-    → Fresh y ls (owed h)
-hear-fresh from x _ _ _ (denies number what why) k ok = record { seat_ok = ok; letters = (tt, tt); owes = tt }
-hear-fresh from x _ _ _ (installs number leaf mine may) k ok =
-    let its = successor-fresh mine leaf (successor mine leaf) refl may.comes in
-    fresh (heard-leaves IsFresh from x _ _ _ (installs number leaf mine may) (its, λ e. its) ok) tt
-hear-fresh from x _ _ _ (grants number leaf o finds) k ok =
-    fresh (heard-leaves IsFresh from x _ _ _ (grants number leaf o finds) tt ok) (owed-fresh o.leaf from leaf k)
-hear-fresh from x y l ls other k ok = fresh (heard-leaves IsFresh from x y l ls other tt ok) tt
-
--- a brick's turn
-letter-fresh : (s : BrickState) (from : NodeNo) (l : Letter) → Turns from (seat s) l (live_brick_turn s from l) → FreshLetter l → SeatOk IsFresh (seat s)
-    → Kept (seat (live_brick_turn s from l).state) (live_brick_turn s from l).out.letters
-letter-fresh s from l t k ok =
-    let a = trip-fresh t.idle tt ok in
-    let b = hear-fresh from t.first t.next l t.answers t.hears k a.0 in
-    let c = trip-fresh t.trip b.owes b.seat_ok in
-    (c.0, subst FreshLetters (sym t.all) (all-append (λ (p : NodeNo × Letter). FreshLetter p.1) t.answers t.letters b.letters c.1))
-
--- each event
 abbrev pub NodeFresh : ℕ → Node → Type 0
 NodeFresh k nowhere = Unit {0}
 NodeFresh k (a_brick s) = InMap IsFresh s.leaves × InOrder IsFresh s.order

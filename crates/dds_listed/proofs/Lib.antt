@@ -10,6 +10,8 @@ pub mod SiblingMembers
 pub mod Made
 pub mod LeafDeeds
 pub mod LeafHears
+pub mod FreshTurns
 pub mod Fresh
+pub mod TellsOrders
 pub mod Tells
 pub mod Worlds
