@@ -32,11 +32,10 @@ use Rattle.dds_orders.proofs.Turns.{letter-turns, order-goes}
 use Rattle.dds_pairs.proofs.NameKeeps.{AreNamed, named-kept, start-names}
 use Rattle.dds_script.specs.Opening.{AreOpeningLeaves, IsOpening, OpeningOf}
 use Rattle.dds_world.specs.Places.{reached}
-use Rattle.dds_listed.proofs.LeafDeeds.{SeatOk}
 use Rattle.dds_listed.proofs.Unlisted.{OwnAreNew}
-use Rattle.dds_listed.proofs.FreshTurns.{FreshLetter, FreshLetters, IsFresh, letter-fresh, others-fresh, trip-fresh}
+use Rattle.dds_listed.proofs.FreshTurns.{FreshLetter, FreshLetters, FreshSeat, IsFresh, letter-fresh, others-fresh, trip-fresh}
 
--- No leaf of a brick is one of the opening's stale leaves, which libraries alone have.
+-- No leaf of a brick is one of the opening's stale leaves, which libraries alone have and push.
 --
 -- | part | why it is needed | which rows keep it |
 -- |---|---|---|
@@ -72,7 +71,7 @@ owes z cs n (unheard at from l) few some named f g = record { becomes = tt; send
 owes z cs n (unasked at caller call o) few some named f g = record { becomes = tt; sends = tt }
 owes z cs n (brick_takes at from l s) few some named f g =
     let both : IsBoth at (own s) = subst (law_own.NodeOk at) f.here (named.copied.own at) in
-    let it : SeatOk IsFresh (seat s) = subst (NodeFresh at) f.here (g.nodes at) in
+    let it : FreshSeat (seat s) = subst (NodeFresh at) f.here (g.nodes at) in
     let t = letter-fresh s from l (letter-turns s from l (of-another z n at from l s few some named.copied.links f both.0.number))
     (first-all (LetterFresh from at) z n at from l f.letter (g.letters from at)) it in
     record { becomes = t.0; sends = news z at _ t.1 }

@@ -1,7 +1,7 @@
-use Rattle.std.proofs.Common.{◌≡◌, ℕ, ◌+◌, ◌≤◌, ◌==◌, ◌&&◌, ◌||◌, Bool, true, false, not, Option, Some, None, List, refl, sym, subst}
+use Rattle.std.proofs.Common.{◌≡◌, ℕ, ◌+◌, ◌≤◌, ◌==◌, ◌&&◌, ◌||◌, Bool, true, false, not, Option, Some, None, List, [], ◌∷◌, refl, sym, subst}
 use Rattle.std.proofs.Common.{arith}
 use Rattle.std.proofs.lemmas.Bool.{and_parts, eqb-true}
-use Rattle.std.specs.FinMap.{get}
+use Rattle.std.specs.FinMap.{get, remove}
 use Rattle.std.specs.List.{AllByRecursion}
 use Rattle.std.specs.Prelude.{is_some, if◌then◌else◌}
 use Rattle.dds_base.specs.Name.{Name}
@@ -11,30 +11,33 @@ use Rattle.dds_base.specs.declared.number.NodeNo.{NodeNo}
 use Rattle.dds_core.proofs.Lists.{all-append, all-map}
 use Rattle.dds_core.specs.Brick.{live_brick_turn}
 use Rattle.dds_groups.proofs.Steps.{successor-epoch}
-use Rattle.dds_groups.specs.Leaves.{newer, same_stamp, successor}
+use Rattle.dds_groups.specs.Leaves.{newer, same_stamp, sibling, successor}
 use Rattle.dds_groups.specs.Take.{is_better_rival, maker_known}
 use Rattle.dds_groups.specs.declared.successor.Change.{Change}
-use Rattle.dds_law_leaf.proofs.Book.{Each, InLetter, InMap}
-use Rattle.dds_law_leaf.proofs.Maps.{each-is}
+use Rattle.dds_law_leaf.proofs.Book.{Each, InLetter, InMap, InOrder}
+use Rattle.dds_law_leaf.proofs.Maps.{each-is, in-put, in-remove}
+use Rattle.dds_law_own.proofs.Changes.{served}
 use Rattle.dds_letters.specs.declared.letter.Letter.{Letter}
 use Rattle.dds_letters.specs.declared.letter.Letter.TheVariants as letter
+use Rattle.dds_letters.specs.declared.refusal.Wanted.TheVariants as wanted
 use Rattle.dds_maps.specs.Own.{own_leaf, whole}
 use Rattle.dds_order_rows.specs.OwnOrder as order
 use Rattle.dds_orders.proofs.Deeds.{AreOthers, Deed, Leaves, Seat, Staged, Trip, arrives, asks_more, closes, copies, copies_none, does_next, drops}
 use Rattle.dds_orders.proofs.Deeds.{Stage, fixes, is_of_orders, joins, leaf_owed, loses, makes, nothing_owed, owed_at, pends, refuses, says}
-use Rattle.dds_orders.proofs.Deeds.{seat, serves, splits, splits_none, stays, takes}
+use Rattle.dds_orders.proofs.Deeds.{seat, serves, split_asked, splits, splits_none, stays, takes, wanted_name}
 use Rattle.dds_orders.proofs.Turns.{Hears, Turns, owed}
-use Rattle.dds_orders.proofs.Turns.{denies, grants, installs}
+use Rattle.dds_orders.proofs.Turns.{copies as copied, copies_not as copied_not, denies, gives, grants, grants_not, hears_other, installed_not, installs}
+use Rattle.dds_orders.proofs.Turns.{installs_not, is_installed, is_refused, learns, refused_not, releases, sends_none, sends_part}
+use Rattle.dds_states.specs.Turn.{to_each, unknown, unknown_others}
 use Rattle.dds_states.specs.declared.brick_state.BrickState.{BrickState}
 use Rattle.dds_states.specs.declared.brick_state.OpenOrder.{OpenOrder}
 use Rattle.dds_states.specs.declared.brick_state.OrderPhase.{OrderPhase}
 use Rattle.dds_states.specs.declared.brick_state.OrderPhase.TheVariants.{Installing}
 use Rattle.dds_states.specs.declared.brick_state.Task.{Task}
 use Rattle.dds_states.specs.declared.brick_state.Task.TheVariants.{Join, Split}
-use Rattle.dds_trie.specs.Trie.{LeafMap, or_else}
+use Rattle.dds_trie.specs.Trie.{LeafMap, or_else, put}
 use Rattle.dds_world.specs.Groups.{made_leaf}
-use Rattle.dds_listed.proofs.LeafDeeds.{AllLetters, Beside, SeatOk, deed-leaves, its-order}
-use Rattle.dds_listed.proofs.LeafHears.{heard-leaves}
+use Rattle.dds_listed.proofs.Replaced.{in-replaced}
 
 -- A brick whose leaves aren't stale ones of the opening takes, installs and makes no such leaf in a turn, and tells none in Lease, Granted and
 -- Install.
@@ -57,15 +60,13 @@ abbrev pub OwesFresh : Stage → Type 0
 OwesFresh (leaf_owed from leaf) = IsFresh leaf
 OwesFresh other = Unit {0}
 
--- letters
-of-all : (l : Letter) → InLetter IsFresh l → FreshLetter l
-of-all (letter.Lease number what) h = h
-of-all (letter.Granted number leaf) h = h
-of-all (letter.Install number leaf) h = h
-of-all other h = tt
+abbrev pub FreshSeat : Seat → Type 0
+FreshSeat x = InMap IsFresh x.own.leaves × InOrder IsFresh x.own.order
 
-all-fresh : (ls : List (NodeNo × Letter)) → AllLetters IsFresh ls → FreshLetters ls
-all-fresh ls h = all-map (λ (p : NodeNo × Letter). InLetter IsFresh p.1) (λ p. FreshLetter p.1) ls (λ p k. of-all p.1 k) h
+-- letters
+letters-each : (ns : List NodeNo) (l : Letter) → FreshLetter l → FreshLetters (to_each ns l)
+letters-each [] l h = tt
+letters-each (n ∷ ns) l h = (h, letters-each ns l h)
 
 of-other : (l : Letter) → is_of_orders l ≡ false → FreshLetter l
 of-other (letter.Lease number what) h = cc
@@ -117,21 +118,26 @@ pub made-fresh : (s : BrickState) (o : OpenOrder) (leaf : Leaf) (t : Task) → I
 made-fresh s o leaf (Join via) = after-one (leaf.epoch + 1) leaf.epoch refl
 made-fresh s o leaf Split = after-one (leaf.epoch + 1) leaf.epoch refl
 
+-- an order's leaves
+abbrev AreFresh : OpenOrder → Type 0
+AreFresh o = Each IsFresh o.leaf × Each IsFresh (made_leaf o.phase)
+
+its-leaves : (q : Option OpenOrder) (o : OpenOrder) → q ≡ Some o → InOrder IsFresh q → AreFresh o
+its-leaves q o e h = subst (InOrder IsFresh) e h
+
 was-fresh : (p : OrderPhase) (made : Leaf) → p ≡ Installing made → Each IsFresh (made_leaf p) → IsFresh made
 was-fresh p made e h = subst (λ i. Each IsFresh (made_leaf i)) e h
 
-beside-fresh : (made : Leaf) (t : Task) → IsFresh made → Beside IsFresh made t
-beside-fresh made (Join via) h = tt
-beside-fresh made Split h = h
+served-fresh : (m : LeafMap) (o : OpenOrder) (made : Leaf) (t : Task) → IsFresh made → InMap IsFresh m → InMap IsFresh (served m o made t)
+served-fresh m o made (Join via) h all = in-put IsFresh m made h all
+served-fresh m o made Split h all =
+    in-put IsFresh (put (remove m o.name) made) (sibling made) h (in-put IsFresh (remove m o.name) made h (in-remove IsFresh m o.name all))
 
 -- after a deed
 record Fresh (y : Seat) (ls : List (NodeNo × Letter)) (b : Stage) : Type 0 where
-  seat_ok : SeatOk IsFresh y
+  leaves : FreshSeat y
   letters : FreshLetters ls
   owes : OwesFresh b
-
-fresh : {y : Seat} {ls : List (NodeNo × Letter)} {b : Stage} → SeatOk IsFresh y × AllLetters IsFresh ls → OwesFresh b → Fresh y ls b
-fresh {ls = ls} h k = record { seat_ok = h.0; letters = all-fresh ls h.1; owes = k }
 
 none-owed : (b : Stage) → b ≡ nothing_owed → OwesFresh b
 none-owed b e = subst OwesFresh (sym e) tt
@@ -142,59 +148,100 @@ left-owed x a b (refuses e f) h = none-owed b f
 left-owed x a b (copies_none o is none e f) h = none-owed b f
 left-owed x a b (splits_none o is none e f) h = none-owed b f
 
-deed-fresh : (a b : Stage) (x y : Seat) (ls : List (NodeNo × Letter)) (d : Deed x ls y) → Staged a b d → OwesFresh a → SeatOk IsFresh x → Fresh y ls b
-deed-fresh a b x _ _ (says ls others) q o h = record { seat_ok = h; letters = others-fresh ls others; owes = left-owed x a b q o }
+deed-fresh : (a b : Stage) (x y : Seat) (ls : List (NodeNo × Letter)) (d : Deed x ls y) → Staged a b d → OwesFresh a → FreshSeat x → Fresh y ls b
+deed-fresh a b x _ _ (says ls others) q o h = record { leaves = h; letters = others-fresh ls others; owes = left-owed x a b q o }
 deed-fresh a b x _ _ (takes mine leaf may) q o h =
     let its = comes-fresh (has_node x.own.known) mine leaf may.comes (in-own IsFresh x.own.leaves leaf.name mine may.there h.0) in
-    fresh (deed-leaves IsFresh x _ _ (takes mine leaf may) (its, λ e. its) h) (none-owed b q.1)
-deed-fresh a b x _ _ (pends p may) q o h = fresh (deed-leaves IsFresh x _ _ (pends p may) tt h) (none-owed b q.1)
-deed-fresh a b x _ _ (drops txn) q o h = fresh (deed-leaves IsFresh x _ _ (drops txn) tt h) (none-owed b q.1)
-deed-fresh a b x _ _ (joins name via may) q o h = fresh (deed-leaves IsFresh x _ _ (joins name via may) tt h) (none-owed b q.1)
-deed-fresh a b x _ _ (splits leaf may) q o h = fresh (deed-leaves IsFresh x _ _ (splits leaf may) tt h) (none-owed b q.1)
-deed-fresh a b x _ _ (loses p y there known) q o h = fresh (deed-leaves IsFresh x _ _ (loses p y there known) tt h) (none-owed b q.1)
+    record { leaves = (in-replaced IsFresh x.own.leaves mine leaf its (λ e. its) h.0, h.1); letters = tt; owes = none-owed b q.1 }
+deed-fresh a b x _ _ (pends p may) q o h = record { leaves = h; letters = tt; owes = none-owed b q.1 }
+deed-fresh a b x _ _ (drops txn) q o h = record { leaves = h; letters = tt; owes = none-owed b q.1 }
+deed-fresh a b x _ _ (joins name via may) q o h = record { leaves = (h.0, (tt, tt)); letters = (tt, tt); owes = none-owed b q.1 }
+deed-fresh a b x _ _ (splits leaf may) q o h =
+    let its : IsFresh leaf = each-is IsFresh (get x.own.leaves may.at) leaf may.there (h.0 may.at) in
+    record {
+      leaves = (h.0, (its, tt));
+      letters = letters-each (split_asked x leaf) (letter.Lease x.orders (wanted.Leaf leaf)) its;
+      owes = none-owed b q.1;
+    }
+deed-fresh a b x _ _ (loses p y there known) q o h =
+    record { leaves = (h.0, its-leaves x.own.order p there h.1); letters = tt; owes = none-owed b q.1 }
 deed-fresh a b x _ _ (fixes p from leaf there may) q o h =
-    fresh (deed-leaves IsFresh x _ _ (fixes p from leaf there may) (subst OwesFresh q.0 o) h) (none-owed b q.1)
+    let its : IsFresh leaf = subst OwesFresh q.0 o in
+    record {
+      leaves = (h.0, (its, (its-leaves x.own.order p there h.1).1));
+      letters = letters-each (unknown_others leaf.list from x.own.known) (letter.Lease p.number (wanted.Leaf leaf)) its;
+      owes = none-owed b q.1;
+    }
 deed-fresh a b x _ _ (copies p leaf source there may) q o h =
-    fresh (deed-leaves IsFresh x _ _ (copies p leaf source there may) tt h) (none-owed b q.1)
-deed-fresh a b x _ _ (asks_more p source there phase) q o h =
-    fresh (deed-leaves IsFresh x _ _ (asks_more p source there phase) tt h) (none-owed b q.1)
+    record { leaves = (h.0, ((its-leaves x.own.order p there h.1).0, tt)); letters = (tt, tt); owes = none-owed b q.1 }
+deed-fresh a b x _ _ (asks_more p source there phase) q o h = record { leaves = h; letters = (tt, tt); owes = none-owed b q.1 }
 deed-fresh a b x _ _ (makes p made nodes there may) q o h =
     let its : IsFresh made = subst IsFresh (sym may.may.is) (made-fresh may.may.state p may.may.leaf p.task) in
-    fresh (deed-leaves IsFresh x _ _ (makes p made nodes there may) its h) (none-owed b q.1)
-deed-fresh a b x _ _ (closes p there) q o h = fresh (deed-leaves IsFresh x _ _ (closes p there) tt h) (none-owed b q.next)
+    record {
+      leaves = (h.0, ((its-leaves x.own.order p there h.1).0, its));
+      letters = letters-each nodes (letter.Install p.number made) its;
+      owes = none-owed b q.1;
+    }
+deed-fresh a b x _ _ (closes p there) q o h =
+    record {
+      leaves = (h.0, tt);
+      letters = letters-each (unknown p.asked x.own.known) (letter.Release p.number p.name) tt;
+      owes = none-owed b q.next;
+    }
 deed-fresh a b x _ _ (serves p made there phase) q o h =
-    let its = was-fresh p.phase made phase (its-order IsFresh x.own.order p there h.1).1 in
-    fresh (deed-leaves IsFresh x _ _ (serves p made there phase) (beside-fresh made p.task its) h) (none-owed b q.1)
+    let its = was-fresh p.phase made phase (its-leaves x.own.order p there h.1).1 in
+    record {
+      leaves = (served-fresh x.own.leaves p made p.task its h.0, tt);
+      letters = letters-each (unknown p.granted x.own.known) (letter.Release p.number p.name) tt;
+      owes = none-owed b q.1;
+    }
 
 abbrev pub Kept : Seat → List (NodeNo × Letter) → Type 0
-Kept y ls = SeatOk IsFresh y × FreshLetters ls
+Kept y ls = FreshSeat y × FreshLetters ls
 
-pub trip-fresh : {a b : Stage} {x y : Seat} {ls : List (NodeNo × Letter)} → Trip a x ls b y → OwesFresh a → SeatOk IsFresh x → Kept y ls
+pub trip-fresh : {a b : Stage} {x y : Seat} {ls : List (NodeNo × Letter)} → Trip a x ls b y → OwesFresh a → FreshSeat x → Kept y ls
 trip-fresh (arrives _ _) o h = (h, tt)
 trip-fresh (does_next a b c x y z ls ms d q w) o h =
     let k = deed-fresh a b x y ls d q o h in
-    let r = trip-fresh w k.owes k.seat_ok in
+    let r = trip-fresh w k.owes k.leaves in
     (r.0, all-append (λ (p : NodeNo × Letter). FreshLetter p.1) ls ms k.letters r.1)
 
 owed-fresh : (q : Option Leaf) (from : NodeNo) (leaf : Leaf) → IsFresh leaf → OwesFresh (owed_at q from leaf)
 owed-fresh None from leaf h = h
 owed-fresh (Some fixed) from leaf h = tt
 
-hear-fresh : (from : NodeNo) (x y : Seat) (l : Letter) (ls : List (NodeNo × Letter)) (h : Hears from x l ls y) → FreshLetter l → SeatOk IsFresh x
+hear-fresh : (from : NodeNo) (x y : Seat) (l : Letter) (ls : List (NodeNo × Letter)) (h : Hears from x l ls y) → FreshLetter l → FreshSeat x
     → Fresh y ls (owed h)
-hear-fresh from x _ _ _ (denies number what why) k ok = record { seat_ok = ok; letters = (tt, tt); owes = tt }
-hear-fresh from x _ _ _ (installs number leaf mine may) k ok =
+hear-fresh from x _ _ _ (gives number what leaf there free found unknown) k h =
+    record { leaves = h; letters = (each-is IsFresh (get x.own.leaves (wanted_name what)) leaf there (h.0 (wanted_name what)), tt); owes = tt }
+hear-fresh from x _ _ _ (denies number what why) k h = record { leaves = h; letters = (tt, tt); owes = tt }
+hear-fresh from x _ _ _ (releases number name) k h = record { leaves = h; letters = tt; owes = tt }
+hear-fresh from x _ _ _ (sends_part number name place last pairs given there) k h = record { leaves = h; letters = (tt, tt); owes = tt }
+hear-fresh from x _ _ _ (sends_none number name place none) k h = record { leaves = h; letters = tt; owes = tt }
+hear-fresh from x _ _ _ (installs number leaf mine may) k h =
     let its = successor-fresh mine leaf (successor mine leaf) refl may.comes in
-    fresh (heard-leaves IsFresh from x _ _ _ (installs number leaf mine may) (its, λ e. its) ok) tt
-hear-fresh from x _ _ _ (grants number leaf o finds) k ok =
-    fresh (heard-leaves IsFresh from x _ _ _ (grants number leaf o finds) tt ok) (owed-fresh o.leaf from leaf k)
-hear-fresh from x y l ls other k ok = fresh (heard-leaves IsFresh from x y l ls other tt ok) tt
+    record { leaves = (in-replaced IsFresh x.own.leaves mine leaf its (λ e. its) h.0, h.1); letters = (tt, tt); owes = tt }
+hear-fresh from x _ _ _ (installs_not number leaf none) k h = record { leaves = h; letters = tt; owes = tt }
+hear-fresh from x _ _ _ (grants number leaf o finds) k h =
+    record { leaves = (h.0, its-leaves x.own.order o finds.there h.1); letters = tt; owes = owed-fresh o.leaf from leaf k }
+hear-fresh from x _ _ _ (grants_not number leaf none) k h = record { leaves = h; letters = tt; owes = tt }
+hear-fresh from x _ _ _ (is_refused number why o finds) k h =
+    record { leaves = (h.0, tt); letters = letters-each (unknown o.asked x.own.known) (letter.Release o.number o.name) tt; owes = tt }
+hear-fresh from x _ _ _ (refused_not number why none) k h = record { leaves = h; letters = tt; owes = tt }
+hear-fresh from x _ _ _ (copied number last pairs o finds) k h =
+    record { leaves = (h.0, its-leaves x.own.order o finds.there h.1); letters = tt; owes = tt }
+hear-fresh from x _ _ _ (copied_not number last pairs none) k h = record { leaves = h; letters = tt; owes = tt }
+hear-fresh from x _ _ _ (is_installed number name o finds) k h =
+    record { leaves = (h.0, its-leaves x.own.order o finds.there h.1); letters = tt; owes = tt }
+hear-fresh from x _ _ _ (installed_not number name none) k h = record { leaves = h; letters = tt; owes = tt }
+hear-fresh from x _ _ _ (learns low other) k h = record { leaves = h; letters = tt; owes = tt }
+hear-fresh from x _ _ _ (hears_other l none) k h = record { leaves = h; letters = tt; owes = tt }
 
 -- a brick's turn
-pub letter-fresh : (s : BrickState) (from : NodeNo) (l : Letter) → Turns from (seat s) l (live_brick_turn s from l) → FreshLetter l → SeatOk IsFresh (seat s)
+pub letter-fresh : (s : BrickState) (from : NodeNo) (l : Letter) → Turns from (seat s) l (live_brick_turn s from l) → FreshLetter l → FreshSeat (seat s)
     → Kept (seat (live_brick_turn s from l).state) (live_brick_turn s from l).out.letters
 letter-fresh s from l t k ok =
     let a = trip-fresh t.idle tt ok in
     let b = hear-fresh from t.first t.next l t.answers t.hears k a.0 in
-    let c = trip-fresh t.trip b.owes b.seat_ok in
+    let c = trip-fresh t.trip b.owes b.leaves in
     (c.0, subst FreshLetters (sym t.all) (all-append (λ (p : NodeNo × Letter). FreshLetter p.1) t.answers t.letters b.letters c.1))

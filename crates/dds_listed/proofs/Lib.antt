@@ -1,5 +1,9 @@
 pub mod Listed
 pub mod Unlisted
+pub mod FreshTurns
+pub mod Fresh
+pub mod TellsOrders
+pub mod Tells
 pub mod Keeps
 pub mod Installing
 pub mod Later
@@ -10,8 +14,4 @@ pub mod SiblingMembers
 pub mod Made
 pub mod LeafDeeds
 pub mod LeafHears
-pub mod FreshTurns
-pub mod Fresh
-pub mod TellsOrders
-pub mod Tells
 pub mod Worlds

@@ -1,4 +1,4 @@
-use Rattle.std.proofs.Common.{◌≡◌, ℕ, ◌+◌, ◌++◌, Bool, true, false, Option, Some, None, List, [], ◌∷◌, sym, subst}
+use Rattle.std.proofs.Common.{◌≡◌, ℕ, ◌+◌, Bool, true, false, Option, Some, None, List, [], ◌∷◌, sym, subst}
 use Rattle.std.specs.FinMap.{get}
 use Rattle.std.specs.List.{AllByRecursion}
 use Rattle.std.specs.Prelude.{if◌then◌else◌}
@@ -19,7 +19,6 @@ use Rattle.dds_letters.specs.declared.letter.Letter.TheVariants as letter
 use Rattle.dds_letters.specs.declared.refusal.Wanted.TheVariants as wanted
 use Rattle.dds_order_rows.specs.OwnOrder as own_order
 use Rattle.dds_order_rows.specs.Orders as orders
-use Rattle.dds_orders.proofs.Deeds.{AreOthers, is_of_orders}
 use Rattle.dds_states.specs.Turn.{BrickTurn, and_then, sends, still, to_each, unknown, unknown_others, without}
 use Rattle.dds_states.specs.declared.brick_state.BrickState.{BrickState}
 use Rattle.dds_states.specs.declared.brick_state.OpenOrder.{OpenOrder}
@@ -28,7 +27,6 @@ use Rattle.dds_states.specs.declared.brick_state.OrderPhase.TheVariants.{Leasing
 use Rattle.dds_states.specs.declared.brick_state.Task.{Task}
 use Rattle.dds_states.specs.declared.brick_state.Task.TheVariants as task
 use Rattle.dds_world.specs.Groups.{letter_leaf}
-use Rattle.dds_listed.proofs.LeafDeeds.{AllLetters}
 
 -- A brick's own order sends no letter with a leaf but Lease and Install.
 
@@ -40,16 +38,6 @@ Told P other = InLetter P other
 abbrev pub AllTold : (Leaf → Type 0) → List (NodeNo × Letter) → Type 0
 AllTold P ls = AllByRecursion (λ (p : NodeNo × Letter). Told P p.1) ls
 
--- letters that aren't of orders
-told-other : (P : Leaf → Type 0) (l : Letter) → is_of_orders l ≡ false → Told P l → InLetter P l
-told-other P (letter.Lease number what) e h = cc
-told-other P (letter.Install number leaf) e h = cc
-told-other P other e h = h
-
-pub told-others : (P : Leaf → Type 0) (ls : List (NodeNo × Letter)) → AreOthers ls → AllTold P ls → AllLetters P ls
-told-others P [] others h = tt
-told-others P (l ∷ ls) others h = (told-other P l.1 others.0 h.0, told-others P ls others.1 h.1)
-
 told-each : (P : Leaf → Type 0) (ns : List NodeNo) (l : Letter) → Told P l → AllTold P (to_each ns l)
 told-each P [] l h = tt
 told-each P (n ∷ ns) l h = (h, told-each P ns l h)
@@ -58,11 +46,6 @@ none-told : (P : Leaf → Type 0) (l : Letter) → letter_leaf l ≡ None → To
 none-told P (letter.Lease number what) e = tt
 none-told P (letter.Install number leaf) e = tt
 none-told P other e = subst (Each P) (sym e) tt
-
--- of letters of two deeds, one after the other
-pub told-parts : (P : Leaf → Type 0) (ls ms : List (NodeNo × Letter)) → AllTold P (ls ++ ms) → AllTold P ls × AllTold P ms
-told-parts P [] ms h = (tt, h)
-told-parts P (l ∷ ls) ms h = let k = told-parts P ls ms h.1 in ((h.0, k.0), k.1)
 
 pub record TellsOwn (P : Leaf → Type 0) (t : BrickTurn) : Type 0 where
   pub letters : AllTold P t.out.letters
