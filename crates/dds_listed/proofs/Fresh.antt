@@ -37,14 +37,13 @@ use Rattle.dds_listed.proofs.FreshTurns.{FreshLetter, FreshLetters, FreshSeat, I
 
 -- No leaf of a brick is one of the opening's stale leaves, which libraries alone have and push.
 --
--- | part | why it is needed | which rows keep it |
+-- | part                               | why it is needed                    | what keeps it                                                              |
 -- |---|---|---|
--- | `nodes`, of own leaves        | claimed                            | what is taken or installed comes in the place of an own leaf, one epoch on |
--- |                               |                                    | or in the same one; what an order made is served                         |
--- | `nodes`, of an order's leaves | what it made is served, and it is  | a split's leaf is an own one, and a join's one came with its first grant; |
--- |                               | told in Lease and Install          | a made leaf is one epoch on                                              |
--- | `letters`: Granted, and Lease | a join's leaf comes from Granted   | Lease and Install tell an order's leaf, Granted an own one               |
--- | and Install                   |                                    |                                                                          |
+-- | `nodes`, of own leaves             | claimed                             | what is taken or installed comes in the place of an own leaf, in its epoch |
+-- |                                    |                                     | or one on; what an order made is served                                    |
+-- | `nodes`, of an order's leaves      | what it made is served, and is told | a split's leaf is an own one, and a join's one came with its first grant;  |
+-- |                                    | in Install                          | a made leaf is one epoch on                                                |
+-- | `letters`: Granted, Lease, Install | a join's leaf comes from Granted    | Granted tells an own leaf, Lease and Install an order's                    |
 
 abbrev pub NodeFresh : ℕ → Node → Type 0
 NodeFresh k nowhere = Unit {0}
