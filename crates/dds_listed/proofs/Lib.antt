@@ -1,5 +1,9 @@
 pub mod Listed
 pub mod Unlisted
+pub mod FreshTurns
+pub mod Fresh
+pub mod TellsOrders
+pub mod Tells
 pub mod Keeps
 pub mod Installing
 pub mod Later

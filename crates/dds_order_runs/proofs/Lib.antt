@@ -4,3 +4,4 @@ pub mod Placed
 pub mod Told
 pub mod Events
 pub mod Runs
+pub mod Group
