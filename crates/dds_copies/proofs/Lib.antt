@@ -3,6 +3,7 @@ pub mod Parts
 pub mod Sources
 pub mod Leased
 pub mod Points
+pub mod Missing
 pub mod Joins
 pub mod OrderRows
 pub mod OtherRows
@@ -11,6 +12,9 @@ pub mod Tells
 pub mod Outside
 pub mod Stops
 pub mod Finishes
+pub mod Asked
+pub mod OrderWas
+pub mod Served
 pub mod Steps
 pub mod Ends
 pub mod SourceRuns

@@ -75,12 +75,12 @@ node-was z cs n (library_asked at caller call o s) k t f h = put-was n at k _ t 
 node-was z cs n (library_stops at s kept) k t f h = put-was n at k _ t (λ e g. absurd (no-brick _ t g)) h
 
 -- who is known has nothing on its way
-known-empty : {deaf stopped known : Bool} (c : List Letter) → Link deaf c stopped known → known ≡ true → c ≡ []
+pub known-empty : {deaf stopped known : Bool} (c : List Letter) → Link deaf c stopped known → known ≡ true → c ≡ []
 known-empty c (link_lives h) e = cc
 known-empty c (link_told front is h) e = cc
 known-empty c (link_over known is h) e = is
 
-no-part : (number : ℕ) (c : List Letter) → c ≡ [] → has_part number c ≡ true → ⊥
+pub no-part : (number : ℕ) (c : List Letter) → c ≡ [] → has_part number c ≡ true → ⊥
 no-part number c e h = let no : false ≡ true = sym (ap (has_part number) e) ∙ h in cc
 
 module _ (z : Sizes) (cs : List Caller) (n : Net) (e : Event) (f : Fits z cs n e) where
