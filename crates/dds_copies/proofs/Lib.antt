@@ -14,6 +14,9 @@ pub mod Stops
 pub mod Finishes
 pub mod Asked
 pub mod OrderWas
+pub mod Carried
+pub mod Before
+pub mod SourceSends
 pub mod Served
 pub mod Steps
 pub mod Ends
