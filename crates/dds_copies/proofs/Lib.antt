@@ -17,6 +17,7 @@ pub mod OrderWas
 pub mod Carried
 pub mod Before
 pub mod SourceSends
+pub mod JoinHears
 pub mod Served
 pub mod Steps
 pub mod Ends
