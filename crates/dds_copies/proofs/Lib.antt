@@ -18,6 +18,7 @@ pub mod Carried
 pub mod Before
 pub mod SourceSends
 pub mod JoinHears
+pub mod Keeps
 pub mod Served
 pub mod Steps
 pub mod Ends

@@ -74,7 +74,7 @@ fresh m n k o source phase none no_part =
       parts = λ other e. subst (λ i. AllByRecursion (TellsNext m o) (n.channel i k)) (source-is (sym phase ∙ e)) (none-tell m o (n.channel source k) no_part);
     }
 
-leasing : (m : Map) (n : Net) (k : ℕ) (o : OpenOrder) → o.phase ≡ Leasing → CopiesTable m n k o
+pub leasing : (m : Map) (n : Net) (k : ℕ) (o : OpenOrder) → o.phase ≡ Leasing → CopiesTable m n k o
 leasing m n k o phase =
     record {
       copied = subst (AreCopied m o) (sym phase) tt;
