@@ -21,6 +21,8 @@ pub mod JoinHears
 pub mod Keeps
 pub mod PointsOutside
 pub mod Served
+pub mod LeavesKeep
+pub mod Runs
 pub mod Steps
 pub mod Ends
 pub mod SourceRuns

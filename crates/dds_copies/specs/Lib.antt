@@ -4,3 +4,4 @@ pub mod Turns
 pub mod Outside
 pub mod Ends
 pub mod Sources
+pub mod Runs

@@ -3,6 +3,7 @@
 ghost use Rattle.dds_copies.specs.Ends.{JoinsEndWithTheTable};
 ghost use Rattle.dds_copies.specs.Law.{CopyingKeepsTheTable};
 ghost use Rattle.dds_copies.specs.Outside.{JoinsCopyOn};
+ghost use Rattle.dds_copies.specs.Runs.{JoinsCopyTheTable, ValuesAreHeld};
 ghost use Rattle.dds_copies.specs.Sources.{SourcesSendTheTable};
 ghost use Rattle.dds_copies.specs.Turns.{TurnsKeepCopies, TurnsTellNext};
 
@@ -37,8 +38,22 @@ pub fn turns_tell_what_is_next()
     ensures { TurnsTellNext }
 {}
 
-/// Of each cluster's nodes and what is on its way between them: points of keys outside the name of each bound join keep what the bound joins
-/// have copied, and so does a node that stops.
+/// Of each cluster's nodes and what is on its way between them: points that are reads, or of keys outside the name of each bound join, keep what
+/// open joins have copied, and so does a node that stops.
 pub fn joins_copy_on()
     ensures { JoinsCopyOn }
+{}
+
+/// In each world of each run, with stops, splits and joins, at whose places orders and their members talk as the table of conversations says: what
+/// each live brick's open join has copied is a beginning of what the points left under its name, and all of it while the join installs; a part on
+/// its way to it is the next one, and what it asks of a live source is what follows. At each step of such a run a brick that serves the leaf that
+/// its own join made has what the points left of each key that it comes to cover.
+pub fn joins_copy_the_table()
+    ensures { JoinsCopyTheTable }
+{}
+
+/// Of each such run: the points, reads that no answer used among them, are legal, and so is the history; and each live brick has for each key of its
+/// leaves what the points left, or, where a transaction is pending on it, what they left before that one's point.
+pub fn values_are_held()
+    ensures { ValuesAreHeld }
 {}

@@ -1,4 +1,3 @@
-use Rattle.dds_copies.proofs.PointsOutside.{come-outside}
 use Rattle.dds_copies.proofs.Stops.{copies-on}
 use Rattle.dds_copies.proofs.laws.joins_copy_on.Goals as goal
 
