@@ -1,4 +1,4 @@
-use Rattle.std.proofs.Common.{◌≡◌, ℕ, ◌==◌, ◌||◌, ◌&&◌, ◌++◌, inl, inr, Bool, true, false, not, Option, Some, None, is_some, List, [], ◌∷◌, refl, sym, ap}
+use Rattle.std.proofs.Common.{◌≡◌, ℕ, ◌==◌, ◌||◌, ◌&&◌, ◌++◌, Bool, true, false, not, Option, Some, None, List, [], ◌∷◌, refl, sym, ap}
 use Rattle.std.proofs.Common.{◌∙◌, subst}
 use Rattle.std.proofs.lemmas.Bool.{eq-eqb, eqb-true, ne_eqb}
 use Rattle.std.specs.List.{AllByRecursion}
@@ -17,7 +17,7 @@ use Rattle.dds_order_talk.proofs.Holds.{both-live, name-self}
 use Rattle.dds_order_talk.proofs.Moves.{Tells}
 use Rattle.dds_order_talk.specs.Seen.{BrickTalk, New, Own, ask_of, asks, one, phase_view, rests, say_of, says, view, with_leaf, work_asks}
 use Rattle.dds_order_talk.specs.Table.{Ask, Say, Talk, Talks, View}
-use Rattle.dds_order_talk.specs.Table.Ask.{old, release, lease, copy, install, stray}
+use Rattle.dds_order_talk.specs.Table.Ask.{copy}
 use Rattle.dds_order_talk.specs.Table.Say.{part}
 use Rattle.dds_order_talk.specs.Table.Talk.{copies, copied, dropped}
 use Rattle.dds_order_talk.specs.Table.Talks.{live, lost, gone}
@@ -30,7 +30,6 @@ use Rattle.dds_share.proofs.Sources.{some-leaf}
 use Rattle.dds_share.proofs.Together.{AreTogether, has_part, is_part}
 use Rattle.dds_states.specs.declared.brick_state.BrickState.{BrickState}
 use Rattle.dds_states.specs.declared.brick_state.OpenOrder.{OpenOrder}
-use Rattle.dds_states.specs.declared.brick_state.OrderPhase.{OrderPhase}
 use Rattle.dds_states.specs.declared.brick_state.OrderPhase.TheVariants.{Copying}
 use Rattle.dds_copies.specs.Copies.{AsksNext, JoinsAsk}
 

@@ -1,5 +1,4 @@
-use Rattle.std.proofs.Common.{◌≡◌, ℕ, ◌≤◌, false, List, sym, ap, ◌∙◌, subst}
-use Rattle.dds_cluster.specs.declared.trace.Caller.{Caller}
+use Rattle.std.proofs.Common.{◌≡◌, ℕ, ◌≤◌, false, List, subst}
 use Rattle.dds_cluster.specs.declared.trace.Made.{Made}
 use Rattle.dds_law_notice.proofs.Keeps.{AreLinked}
 use Rattle.dds_law_own.proofs.Changes.{own}

@@ -1,6 +1,5 @@
-use Rattle.std.proofs.Common.{◌≡◌, ℕ, ◌&&◌, ◌==◌, ◌++◌, inl, inr, Bool, true, false, Some, None, List, [], ◌∷◌, refl, sym, ap, ◌∙◌, subst}
+use Rattle.std.proofs.Common.{◌≡◌, ℕ, ◌==◌, ◌++◌, inl, inr, true, false, Some, List, ◌∷◌, refl, sym, ap, ◌∙◌, subst}
 use Rattle.std.proofs.lemmas.Bool.{cases_Bool, eq-eqb, ne_eqb}
-use Rattle.std.proofs.lemmas.List.{append-nil}
 use Rattle.std.specs.List.{AllByRecursion}
 use Rattle.std.specs.Prelude.{drop, if◌then◌else◌}
 use Rattle.dds_base.specs.NodeSet.{has_node}
@@ -18,7 +17,6 @@ use Rattle.dds_net.specs.Net.{Net, Sizes, a_brick, gains}
 use Rattle.dds_orders.proofs.Numbered.{AreCounted, BrickOk, NodeOk, counted-kept, put-at}
 use Rattle.dds_share.proofs.Bounds.{known-empty, no-part}
 use Rattle.dds_share.proofs.Heard.{part-copies}
-use Rattle.dds_share.proofs.Joins.{Same}
 use Rattle.dds_share.proofs.Parts.{part-brick}
 use Rattle.dds_share.proofs.Together.{has_part}
 use Rattle.dds_states.specs.declared.brick_state.BrickState.{BrickState}

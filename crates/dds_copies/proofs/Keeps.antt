@@ -8,19 +8,16 @@ use Rattle.dds_cluster.specs.declared.trace.Caller.{Caller}
 use Rattle.dds_cluster.specs.declared.trace.Made.{Made}
 use Rattle.dds_core.specs.Brick.{brick_input, live_brick_turn}
 use Rattle.dds_core.specs.LibraryTurn.{live_library_turn}
-use Rattle.dds_law_leaf.proofs.Keeps.{stopped-order}
 use Rattle.dds_letters.specs.declared.letter.Letter.{Letter}
 use Rattle.dds_net.proofs.Carried.{Sends}
 use Rattle.dds_net.specs.Event.{Event, Fits, Ordered, Takes, asked_turn, moved, nothing, unheard, unasked, brick_takes, brick_told, brick_stops}
 use Rattle.dds_net.specs.Event.{library_asked, library_stops, library_takes}
-use Rattle.dds_net.specs.Net.{Net, Node, Sizes, a_brick, a_library, put}
+use Rattle.dds_net.specs.Net.{Net, Node, Sizes, a_brick, a_library}
 use Rattle.dds_order_rows.specs.OwnOrder as order
 use Rattle.dds_orders.proofs.LibraryLetters.{asked-others, library-others}
 use Rattle.dds_orders.proofs.Numbered.{told-stopped}
-use Rattle.dds_share.proofs.Bounds.{takes-live}
 use Rattle.dds_share.proofs.Opens.{order-opens, order-still}
 use Rattle.dds_share.proofs.Turned.{same-brick}
-use Rattle.dds_states.specs.Turn.{BrickTurn}
 use Rattle.dds_states.specs.declared.brick_state.BrickState.{BrickState}
 use Rattle.dds_states.specs.declared.brick_state.OpenOrder.{OpenOrder}
 use Rattle.dds_states.specs.declared.brick_state.OrderPhase.{OrderPhase}

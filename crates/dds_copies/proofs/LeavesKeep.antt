@@ -1,13 +1,9 @@
-use Rattle.std.proofs.Common.{◌≡◌, ℕ, true, false, Some, None, List, sym, ap, ◌∙◌}
-use Rattle.std.specs.FinMap.{get}
-use Rattle.dds_base.specs.Name.{covers}
-use Rattle.dds_base.specs.declared.leaf.Leaf.{Leaf}
+use Rattle.std.proofs.Common.{◌≡◌, ℕ, true, Some, List, sym, ap, ◌∙◌}
 use Rattle.dds_brick_rows.specs.Refusal.{is_join}
 use Rattle.dds_cluster.specs.declared.trace.Caller.{Caller}
 use Rattle.dds_cluster.specs.declared.trace.Made.{Made}
 use Rattle.dds_core.specs.Brick.{live_brick_turn}
 use Rattle.dds_core.specs.Notice.{learns, order_part}
-use Rattle.dds_law_own.proofs.Changes.{own}
 use Rattle.dds_law_own.proofs.Owned.{orderly}
 use Rattle.dds_letters.specs.declared.letter.Letter.{Letter}
 use Rattle.dds_letters.specs.declared.letter.Letter.TheVariants as letter
@@ -17,7 +13,7 @@ use Rattle.dds_net.specs.Net.{Net, Sizes, a_brick}
 use Rattle.dds_pairs.proofs.NameKeeps.{keyed-at}
 use Rattle.dds_states.specs.declared.brick_state.BrickState.{BrickState}
 use Rattle.dds_states.specs.declared.brick_state.OpenOrder.{OpenOrder}
-use Rattle.dds_values.specs.Below.{ComesHeld, IsAs, LeavesKept, OwnLeavesAt, WhereServed}
+use Rattle.dds_values.specs.Below.{LeavesKept, OwnLeavesAt, WhereServed}
 use Rattle.dds_values.specs.Values.{table}
 use Rattle.dds_copies.proofs.Before.{Before, its-names, its-own, its-pairs}
 use Rattle.dds_copies.proofs.Ends.{none-under}

@@ -1,4 +1,4 @@
-use Rattle.std.proofs.Common.{◌≡◌, ℕ, ◌<◌, ◌==◌, ◌&&◌, ◌||◌, ◌++◌, Bool, true, false, not, Option, Some, None, List, [], ◌∷◌, refl, sym, ap, ◌∙◌, subst}
+use Rattle.std.proofs.Common.{◌≡◌, ℕ, ◌<◌, ◌==◌, ◌&&◌, ◌||◌, ◌++◌, Bool, true, false, Option, Some, None, List, [], ◌∷◌, refl, sym, ap, ◌∙◌, subst}
 use Rattle.std.proofs.lemmas.Bool.{and_parts, both_ways, eq-eqb, eqb-true}
 use Rattle.std.specs.List.{AllByRecursion}
 use Rattle.std.specs.Prelude.{if◌then◌else◌}
@@ -7,7 +7,6 @@ use Rattle.dds_base.specs.NodeSet.{has_node, with_node}
 use Rattle.dds_base.specs.declared.leaf.Leaf.{Leaf}
 use Rattle.dds_base.specs.declared.number.NodeNo.{NodeNo}
 use Rattle.dds_base.specs.declared.op.OrderReply.TheVariants as answered
-use Rattle.dds_base.specs.declared.pair.Pair.{Pair}
 use Rattle.dds_brick_rows.specs.Refusal.{is_join}
 use Rattle.dds_core.proofs.Known.{has-with}
 use Rattle.dds_core.proofs.Lists.{all-filter}

@@ -1,6 +1,6 @@
 use Rattle.std.proofs.Common.{◌≡◌, ℕ, ◌==◌, ◌++◌, inl, inr, Bool, true, false, Option, Some, None, List, [], ◌∷◌, refl, sym, ap, ◌∙◌, subst}
 use Rattle.std.proofs.Common.{append_assoc}
-use Rattle.std.proofs.lemmas.Bool.{both_ways, cases_Bool}
+use Rattle.std.proofs.lemmas.Bool.{both_ways}
 use Rattle.std.proofs.lemmas.List.{append-nil}
 use Rattle.std.specs.List.{AllByRecursion}
 use Rattle.dds_base.specs.Name.{Name, covers}
@@ -16,7 +16,7 @@ use Rattle.dds_net.specs.Net.{Net, a_brick}
 use Rattle.dds_order_rows.specs.Orders.{pairs_after}
 use Rattle.dds_pairs.proofs.Bindings.{same-key}
 use Rattle.dds_share.proofs.Parts.{FromBrick, part-brick}
-use Rattle.dds_share.proofs.Together.{Bound, IsBound, comes, copied, has_part, installs}
+use Rattle.dds_share.proofs.Together.{IsBound, comes, copied, has_part, installs}
 use Rattle.dds_states.specs.declared.brick_state.BrickState.{BrickState}
 use Rattle.dds_states.specs.declared.brick_state.OpenOrder.{OpenOrder}
 use Rattle.dds_states.specs.declared.brick_state.OrderPhase.{OrderPhase}

@@ -1,13 +1,12 @@
-use Rattle.std.proofs.Common.{◌≡◌, ℕ, ◌+◌, ◌≤◌, ◌||◌, ◌++◌, inl, inr, Bool, true, false, Option, Some, is_some, List, [], ◌∷◌, refl, sym, ap, ◌∙◌, subst}
+use Rattle.std.proofs.Common.{◌≡◌, ℕ, ◌+◌, ◌≤◌, ◌||◌, inl, inr, Bool, true, false, Option, is_some, List, [], ◌∷◌, refl, sym, ap, ◌∙◌, subst}
 use Rattle.std.proofs.Common.{arith}
-use Rattle.std.proofs.lemmas.Bool.{both_ways, cases_eq, ne_eqb}
+use Rattle.std.proofs.lemmas.Bool.{both_ways, ne_eqb}
 use Rattle.std.specs.List.{AllByRecursion}
 use Rattle.dds_base.specs.BrickList.{has}
 use Rattle.dds_base.specs.Name.{Name, covers}
 use Rattle.dds_base.specs.Number.{Txn}
 use Rattle.dds_base.specs.Op.{the_key}
 use Rattle.dds_base.specs.declared.pending.Pending.{Pending}
-use Rattle.dds_brick_rows.specs.Refusal.{is_join}
 use Rattle.dds_cluster.specs.Trace.{all_kept}
 use Rattle.dds_cluster.specs.Turn.{points_made, read_by}
 use Rattle.dds_cluster.specs.declared.trace.Caller.{Caller}
@@ -21,13 +20,13 @@ use Rattle.dds_locks.specs.Leases.{is_given}
 use Rattle.dds_locks.specs.Pending.{any_under}
 use Rattle.dds_net.specs.Event.{Event, Fits, Takes, moved, nothing, unheard, unasked, brick_takes, brick_told, brick_stops, library_asked, library_stops}
 use Rattle.dds_net.specs.Event.{library_takes, points_of}
-use Rattle.dds_net.specs.Net.{Net, Node, Sizes, a_brick, put}
+use Rattle.dds_net.specs.Net.{Net, Sizes, a_brick}
 use Rattle.dds_order_rows.specs.OwnOrder as order
 use Rattle.dds_order_talk.proofs.Holds.{granted-holds}
 use Rattle.dds_orders.proofs.Covered.{Covers, Covering, Unlocked, false-of}
 use Rattle.dds_orders.proofs.Standing.{Standing}
 use Rattle.dds_orders.proofs.Stood.{NodeStands}
-use Rattle.dds_outcomes.proofs.PointRows.{AllHave, PointHas, turn-points}
+use Rattle.dds_outcomes.proofs.PointRows.{PointHas, turn-points}
 use Rattle.dds_outcomes.proofs.Points.{kept-all}
 use Rattle.dds_pairs.proofs.Apart.{covered-apart}
 use Rattle.dds_parents.proofs.Served.{covered-by}
@@ -76,9 +75,10 @@ under-more name p ps q f e = or-right (covers name (the_key p.op)) (any_under ps
 
 all-under : (name : Name) (ps : List Pending) → AllByRecursion (λ p. covers name (the_key p.op) ≡ true → any_under ps name ≡ true) ps
 all-under name [] = tt
-all-under name (p ∷ ps) =
-    ((λ e. ap (λ b. b || any_under ps name) e),
-    all-map (λ q. covers name (the_key q.op) ≡ true → any_under ps name ≡ true) _ ps (λ q f. under-more name p ps q f) (all-under name ps))
+all-under name (p ∷ ps) = (
+  (λ e. ap (λ b. b || any_under ps name) e),
+  all-map (λ q. covers name (the_key q.op) ≡ true → any_under ps name ≡ true) _ ps (λ q f. under-more name p ps q f) (all-under name ps),
+)
 
 no-leasing : (p : OrderPhase) → (p ≡ Leasing → ⊥) → order.is_leasing p ≡ false
 no-leasing Leasing h = absurd (h refl)

@@ -1,10 +1,10 @@
-use Rattle.std.proofs.Common.{◌≡◌, ℕ, ◌++◌, true, false, Some, None, List, [], ◌∷◌, drop, length, refl, sym, ap, ◌∙◌, subst}
+use Rattle.std.proofs.Common.{◌≡◌, ℕ, ◌++◌, true, Some, None, List, [], ◌∷◌, drop, length, refl, sym, ap, ◌∙◌, subst}
 use Rattle.std.proofs.Math.Seq.{take-append_seam}
 use Rattle.std.proofs.lemmas.Bool.{and_parts}
 use Rattle.std.proofs.lemmas.List.{append-nil, append_assoc, take-append-drop}
 use Rattle.std.specs.Prelude.{take}
 use Rattle.dds_cluster.specs.Trace.{all_kept, is_possible, is_run, is_run_from, next, run_of, start, trace_from}
-use Rattle.dds_cluster.specs.World.{brick_at, new_brick}
+use Rattle.dds_cluster.specs.World.{brick_at}
 use Rattle.dds_cluster.specs.declared.step.Step.{Step}
 use Rattle.dds_cluster.specs.declared.trace.Made.{Made}
 use Rattle.dds_cluster.specs.declared.trace.Trace.{Trace}
@@ -14,7 +14,7 @@ use Rattle.dds_net.proofs.Prefixes.{run-take}
 use Rattle.dds_net.proofs.Runs.{history-is, net-built, next-is, sized-run}
 use Rattle.dds_net.proofs.Steps.{step-moves}
 use Rattle.dds_net.specs.Event.{Event, History, goes, history_of, moved, points_of}
-use Rattle.dds_net.specs.Net.{Net, Node, a_brick, a_library, net, nowhere, sizes_of}
+use Rattle.dds_net.specs.Net.{Node, a_brick, a_library, net, nowhere, sizes_of}
 use Rattle.dds_order_talk.specs.Seen.{OrdersTalk}
 use Rattle.dds_pairs.proofs.LieKeeps.{run-lying}
 use Rattle.dds_script.specs.Opening.{IsOpening, OpeningOf}
@@ -26,16 +26,16 @@ use Rattle.dds_states.specs.declared.brick_state.BrickState.{BrickState}
 use Rattle.dds_states.specs.declared.brick_state.OpenOrder.{OpenOrder}
 use Rattle.dds_values.proofs.Runs.{held-where-given}
 use Rattle.dds_values.specs.Below.{LeavesKept}
-use Rattle.dds_values.specs.Held.{JoinsServeTheTable, TalkAlong, ValuesHeld}
-use Rattle.dds_values.specs.Values.{HoldsTable, table}
+use Rattle.dds_values.specs.Held.{JoinsServeTheTable, TalkAlong}
+use Rattle.dds_values.specs.Values.{table}
 use Rattle.dds_copies.proofs.Asked.{joins-ask}
-use Rattle.dds_copies.proofs.Before.{Before, its-counts}
+use Rattle.dds_copies.proofs.Before.{Before}
 use Rattle.dds_copies.proofs.Keeps.{joins-kept}
 use Rattle.dds_copies.proofs.LeavesKeep.{leaves-kept}
 use Rattle.dds_copies.proofs.Outside.{points-keep}
 use Rattle.dds_copies.proofs.PointsOutside.{come-outside}
 use Rattle.dds_copies.specs.Copies.{JoinsCopy}
-use Rattle.dds_copies.specs.Runs.{JoinsCopyTheTable, JoinsHaveCopied, ValuesAreHeld}
+use Rattle.dds_copies.specs.Runs.{JoinsCopyTheTable, ValuesAreHeld}
 
 -- Along each run: as far as bricks that serve what their joins made hold the table, live bricks do, so what sources send is the table's; so
 -- joins copy it, and serve it at the next step.

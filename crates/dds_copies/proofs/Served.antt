@@ -185,9 +185,9 @@ module _ (table : Map) (s : BrickState) (p : OpenOrder) (there : s.order ≡ Som
 
   its-made : HasAll table p p p.phase
   its-made made e = (
-      (each-is (λ (l : Leaf). (l.name ≡ made_name p.name p.task) × (has l.list me ≡ true)) (world.made_leaf p.phase) made (ap world.made_leaf e) orderly.made).0
-          ∙ made-is p.name p.task join,
-      subst (AreCopied table p) e copied,
+    (each-is (λ (l : Leaf). (l.name ≡ made_name p.name p.task) × (has l.list me ≡ true)) (world.made_leaf p.phase) made (ap world.made_leaf e) orderly.made).0
+        ∙ made-is p.name p.task join,
+    subst (AreCopied table p) e copied,
   )
 
   same-order : {o : OpenOrder} → Some o ≡ Some p → o ≡ p

@@ -1,5 +1,5 @@
 -- What an open join has copied, of a cluster's nodes and channels and the table that the points leave: a record of named parts.
-use Rattle.std.specs.Prelude.{ℕ, ◌≡◌, Bool, true, false, List, [], Some, None, length, nat_le, take}
+use Rattle.std.specs.Prelude.{ℕ, ◌≡◌, Bool, true, false, List, Some, None, length, nat_le, take}
 use Rattle.std.specs.FinMap.{get}
 use Rattle.std.specs.List.{AllByRecursion}
 use Rattle.dds_base.specs.Name.{Name, covers}
