@@ -127,8 +127,8 @@ joins-ask z n g h counted k s t o source here lives is join phase there also =
     all-map (λ l. PlaceIs o (last_key None o.copied) l × NameIs o l) (AsksNext o) out (λ l q. both-are o l q) (all-both _ _ out places names)
 
 -- a part that has come is the only one
-last-part : {x : Name} {Own New : Tells} {v : View} {out : List Ask} {given : Bool} {back said : List Say} → said ≡ part ∷ back → Talk x Own New v out given said
-    → back ≡ []
+last-part : {x : Name} {Own New : Tells} {v : View} {out : List Ask} {given : Bool} {back said : List Say} → said ≡ part ∷ back
+    → Talk x Own New v out given said → back ≡ []
 last-part e (copied own) = cc
 last-part e other = cc
 

@@ -84,7 +84,8 @@ module _ (z : Sizes) (cs : List Caller) (made : List Made) (n : Net) (g : Before
         parts-moved (table made) o source at z cs n e f
         (other-news (table made) o source at z at (live_brick_turn s from l).out.letters (not-itself o source there phase)) h
 
-    stayed : (source : NodeNo) (p : OpenOrder) → p.number ≡ o.number → o.phase ≡ Copying source → s.order ≡ Some p → is_join p.task ≡ true → p.phase ≡ Copying source
+    stayed : (source : NodeNo) (p : OpenOrder) → p.number ≡ o.number → o.phase ≡ Copying source → s.order ≡ Some p → is_join p.task ≡ true
+        → p.phase ≡ Copying source
         → has_part p.number (n.channel source at) ≡ true → Stays p from source l o → After source
     stayed source p number phase was join_was phase_was carried (as_it_was is) =
         moves source phase (subst (λ (x : OpenOrder). AllByRecursion (TellsNext (table made) x) (n.channel source at)) (sym is)

@@ -144,7 +144,8 @@ module _ (s : BrickState) (p o : OpenOrder) (from source : NodeNo) (there : s.or
       ∙ ap (λ b. b || has_node s.known source) c)) concerned
 
   noticed-if : (q : Option OpenOrder) (c : Bool) → q ≡ Some p → notices.concerns_some from q ≡ c → from < 80
-      → After letter.Notice (if c then order.with_order (notices.learns s from) (λ t x. notices.order_goes t x from x.phase) q else still (notices.learns s from))
+      → After letter.Notice
+      (if c then order.with_order (notices.learns s from) (λ t x. notices.order_goes t x from x.phase) q else still (notices.learns s from))
   noticed-if q false e i low = rested letter.Notice (still (notices.learns s from)) there
   noticed-if None true e i low = cc
   noticed-if (Some x) true e i low =

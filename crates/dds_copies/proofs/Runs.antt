@@ -87,7 +87,8 @@ module _ (o : OpeningOf) (journal : List Step) (h : IsOpening o) (run : is_run o
   front-of front more was rest is whole = sym (append_assoc front more rest) ∙ ap (λ j. j ++ rest) is ∙ whole
 
   along-talks : (was rest : List Step) → was ++ rest ≡ journal → TalkAlong o was
-  along-talks was rest whole at = front-talks (take at was) (drop at was ++ rest) (front-of (take at was) (drop at was) was rest (take-append-drop at was) whole)
+  along-talks was rest whole at =
+      front-talks (take at was) (drop at was ++ rest) (front-of (take at was) (drop at was) was rest (take-append-drop at was) whole)
 
   its-bricks : (was : List Step) (x : Step) (k : ℕ) (s : BrickState) → (net_of o was).node k ≡ a_brick s → brick_at (run_of o was).world k ≡ Some s
   its-bricks was x k s here = subst (λ w. brick_at w k ≡ Some s) (world-now o was (x ∷ [])) (brick-now o was x k s here)
