@@ -23,6 +23,7 @@ pub mod PointsOutside
 pub mod Served
 pub mod LeavesKeep
 pub mod Runs
+pub mod Servers
 pub mod Steps
 pub mod Ends
 pub mod SourceRuns

@@ -6,6 +6,7 @@ use Rattle.dds_net.proofs.Journals.{net_of}
 use Rattle.dds_script.specs.Opening.{IsOpening, OpeningOf}
 use Rattle.dds_values.specs.Held.{JoinsServeTheTable, TalkAlong, ValuesHeld}
 use Rattle.dds_values.specs.Values.{table}
+use Rattle.dds_world.specs.Values.{ServersHoldTheHistory}
 use Rattle.dds_copies.specs.Copies.{JoinsAsk, JoinsCopy}
 
 -- in the world that a run reaches open joins have copied what the points left, and ask for what follows; and at each of its steps a brick that
@@ -22,3 +23,8 @@ JoinsCopyTheTable =
 
 abbrev pub ValuesAreHeld : Type 0
 ValuesAreHeld = (o : OpeningOf) (journal : List Step) → IsOpening o → is_run o journal ≡ true → TalkAlong o journal → ValuesHeld o journal
+
+-- and so bricks hold what the one history left
+abbrev pub ServersHold : Type 0
+ServersHold =
+    (o : OpeningOf) (journal : List Step) → IsOpening o → is_run o journal ≡ true → TalkAlong o journal → ServersHoldTheHistory o journal

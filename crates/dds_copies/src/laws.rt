@@ -3,7 +3,7 @@
 ghost use Rattle.dds_copies.specs.Ends.{JoinsEndWithTheTable};
 ghost use Rattle.dds_copies.specs.Law.{CopyingKeepsTheTable};
 ghost use Rattle.dds_copies.specs.Outside.{JoinsCopyOn};
-ghost use Rattle.dds_copies.specs.Runs.{JoinsCopyTheTable, ValuesAreHeld};
+ghost use Rattle.dds_copies.specs.Runs.{JoinsCopyTheTable, ServersHold, ValuesAreHeld};
 ghost use Rattle.dds_copies.specs.Sources.{SourcesSendTheTable};
 ghost use Rattle.dds_copies.specs.Turns.{TurnsKeepCopies, TurnsTellNext};
 
@@ -56,4 +56,9 @@ pub fn joins_copy_the_table()
 /// leaves what the points left, or, where a transaction is pending on it, what they left before that one's point.
 pub fn values_are_held()
     ensures { ValuesAreHeld }
+{}
+
+/// Of each such run: who serves a key has for it what the history left, or what its points left before that of the transaction pending on it.
+pub fn servers_hold_the_history()
+    ensures { ServersHold }
 {}
