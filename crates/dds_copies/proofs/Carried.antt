@@ -1,4 +1,4 @@
-use Rattle.std.proofs.Common.{◌≡◌, ℕ, inl, inr, true, false, Some, List, [], ◌∷◌, refl, sym, ◌∙◌, subst}
+use Rattle.std.proofs.Common.{◌≡◌, ℕ, inl, inr, true, false, Some, List, refl, sym, ◌∙◌, subst}
 use Rattle.std.proofs.lemmas.Bool.{cases_eq}
 use Rattle.std.specs.List.{AllByRecursion}
 use Rattle.dds_base.specs.declared.number.NodeNo.{NodeNo}
@@ -10,6 +10,7 @@ use Rattle.dds_letters.specs.declared.letter.Letter.{Letter}
 use Rattle.dds_net.proofs.Carried.{AllCarried, News, Sends, letters-moved}
 use Rattle.dds_net.specs.Event.{Event, Fits, moved}
 use Rattle.dds_net.specs.Net.{Net, Node, Sizes, a_brick, is_in, lands, put}
+use Rattle.dds_share.proofs.Parts.{all-of}
 use Rattle.dds_share.proofs.Turned.{put-other, put-same}
 use Rattle.dds_states.specs.declared.brick_state.BrickState.{BrickState}
 use Rattle.dds_states.specs.declared.brick_state.OpenOrder.{OpenOrder}
@@ -21,10 +22,6 @@ use Rattle.dds_copies.specs.Turns.{AllTell}
 
 abbrev pub Tell : Map → OpenOrder → ℕ → ℕ → ℕ → ℕ → Letter → Type 0
 Tell table o source k a b l = a ≡ source → b ≡ k → TellsNext table o l
-
-pub all-of : {X : Type 0} (P : X → Type 0) (xs : List X) → ((x : X) → P x) → AllByRecursion P xs
-all-of P [] f = tt
-all-of P (x ∷ xs) f = (f x, all-of P xs f)
 
 all-tell : (table : Map) (o : OpenOrder) (source k : ℕ) (n : Net) → AllByRecursion (TellsNext table o) (n.channel source k)
     → AllCarried (Tell table o source k) n

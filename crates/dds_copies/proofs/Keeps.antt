@@ -12,17 +12,16 @@ use Rattle.dds_letters.specs.declared.letter.Letter.{Letter}
 use Rattle.dds_net.proofs.Carried.{Sends}
 use Rattle.dds_net.specs.Event.{Event, Fits, Ordered, Takes, asked_turn, moved, nothing, unheard, unasked, brick_takes, brick_told, brick_stops}
 use Rattle.dds_net.specs.Event.{library_asked, library_stops, library_takes}
-use Rattle.dds_net.specs.Net.{Net, Node, Sizes, a_brick, a_library}
-use Rattle.dds_order_rows.specs.OwnOrder as order
+use Rattle.dds_net.specs.Net.{Net, Node, Sizes, a_brick}
 use Rattle.dds_orders.proofs.LibraryLetters.{asked-others, library-others}
 use Rattle.dds_orders.proofs.Numbered.{told-stopped}
+use Rattle.dds_share.proofs.Bounds.{leasing-is, no-brick}
+use Rattle.dds_share.proofs.Events.{stopped-not}
 use Rattle.dds_share.proofs.Opens.{order-opens, order-still}
 use Rattle.dds_share.proofs.Turned.{same-brick}
 use Rattle.dds_states.specs.declared.brick_state.BrickState.{BrickState}
 use Rattle.dds_states.specs.declared.brick_state.OpenOrder.{OpenOrder}
-use Rattle.dds_states.specs.declared.brick_state.OrderPhase.{OrderPhase}
-use Rattle.dds_states.specs.declared.brick_state.OrderPhase.TheVariants.{Copying, Installing, Leasing}
-use Rattle.dds_states.specs.declared.library_state.LibraryState.{LibraryState}
+use Rattle.dds_states.specs.declared.brick_state.OrderPhase.TheVariants.{Copying}
 use Rattle.dds_values.specs.Values.{table}
 use Rattle.dds_copies.proofs.Before.{Before}
 use Rattle.dds_copies.proofs.Carried.{PutAt, Tell, another, itself, kept-join, put-at, tell-news}
@@ -33,17 +32,6 @@ use Rattle.dds_copies.proofs.Tells.{others-tell, turns-tell}
 use Rattle.dds_copies.specs.Copies.{CopiesTable, JoinsCopy}
 
 -- Each event keeps what joins have copied of the table that was there before it.
-
-no-brick : (q : LibraryState) (t : BrickState) → a_library q ≡ a_brick t → ⊥
-no-brick q t e = cc
-
-stopped-not : (s t : BrickState) → a_brick (emptied s.number) ≡ a_brick t → t.stopped ≡ false → ⊥
-stopped-not s t e live = both_ways t.stopped live (sym (ap (λ (x : BrickState). x.stopped) (same-brick (emptied s.number) t e)))
-
-leasing-is : (p : OrderPhase) → order.is_leasing p ≡ true → p ≡ Leasing
-leasing-is Leasing h = refl
-leasing-is (Copying source) h = cc
-leasing-is (Installing made) h = cc
 
 module _ (z : Sizes) (cs : List Caller) (made : List Made) (n : Net) (g : Before z made n) where
   abbrev Kept : Event → ℕ → OpenOrder → Type 0
