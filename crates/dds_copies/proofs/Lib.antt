@@ -19,6 +19,7 @@ pub mod Before
 pub mod SourceSends
 pub mod JoinHears
 pub mod Keeps
+pub mod Frozen
 pub mod PointsOutside
 pub mod Served
 pub mod LeavesKeep

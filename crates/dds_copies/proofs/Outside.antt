@@ -42,7 +42,7 @@ one-outside : (made : List Made) (m : Made) (name : Name) (key : ℕ) → covers
 one-outside made m name key over (inl read) = bound-read made m key read
 one-outside made m name key over (inr out) = bound-other made m key (differ (the_key m.entry.op) key name (the_key m.entry.op == key) refl out over)
 
-all-outside : (made ms : List Made) (name : Name) (key : ℕ) → covers name key ≡ true → AllByRecursion (IsOutside name) ms
+pub all-outside : (made ms : List Made) (name : Name) (key : ℕ) → covers name key ≡ true → AllByRecursion (IsOutside name) ms
     → bound_in (made ++ ms) key ≡ bound_in made key
 all-outside made [] name key over h = ap (λ l. bound_in l key) (append-nil made)
 all-outside made (m ∷ ms) name key over h =

@@ -1,8 +1,6 @@
-use Rattle.std.proofs.Common.{◌≡◌, ℕ, ◌+◌, ◌≤◌, ◌||◌, inl, inr, Bool, true, false, Option, is_some, List, [], ◌∷◌, refl, sym, ap, ◌∙◌, subst}
-use Rattle.std.proofs.Common.{arith}
-use Rattle.std.proofs.lemmas.Bool.{both_ways, ne_eqb}
+use Rattle.std.proofs.Common.{◌≡◌, ℕ, ◌||◌, inl, inr, Bool, true, false, Option, List, [], ◌∷◌, refl, sym, ap, ◌∙◌, subst}
+use Rattle.std.proofs.lemmas.Bool.{both_ways}
 use Rattle.std.specs.List.{AllByRecursion}
-use Rattle.dds_base.specs.BrickList.{has}
 use Rattle.dds_base.specs.Name.{Name, covers}
 use Rattle.dds_base.specs.Number.{Txn}
 use Rattle.dds_base.specs.Op.{the_key}
@@ -16,36 +14,26 @@ use Rattle.dds_core.specs.Brick.{live_brick_turn}
 use Rattle.dds_law_own.proofs.Changes.{own}
 use Rattle.dds_letters.specs.declared.letter.Letter.{Letter}
 use Rattle.dds_letters.specs.declared.letter.Letter.TheVariants as letter
-use Rattle.dds_locks.specs.Leases.{is_given}
 use Rattle.dds_locks.specs.Pending.{any_under}
 use Rattle.dds_net.specs.Event.{Event, Fits, Takes, moved, nothing, unheard, unasked, brick_takes, brick_told, brick_stops, library_asked, library_stops}
 use Rattle.dds_net.specs.Event.{library_takes, points_of}
 use Rattle.dds_net.specs.Net.{Net, Sizes, a_brick}
-use Rattle.dds_order_rows.specs.OwnOrder as order
-use Rattle.dds_order_talk.proofs.Holds.{granted-holds}
 use Rattle.dds_orders.proofs.Covered.{Covers, Covering, Unlocked, false-of}
 use Rattle.dds_orders.proofs.Standing.{Standing}
 use Rattle.dds_orders.proofs.Stood.{NodeStands}
 use Rattle.dds_outcomes.proofs.PointRows.{PointHas, turn-points}
 use Rattle.dds_outcomes.proofs.Points.{kept-all}
 use Rattle.dds_pairs.proofs.Apart.{covered-apart}
-use Rattle.dds_parents.proofs.Served.{covered-by}
 use Rattle.dds_share.proofs.Bounds.{still-bound}
-use Rattle.dds_share.proofs.Facts.{unknown-of}
-use Rattle.dds_share.proofs.Over.{covers-over, in-covers}
-use Rattle.dds_share.proofs.Sources.{not-leasing, some-leaf}
-use Rattle.dds_share.proofs.Together.{Bound, Serves}
+use Rattle.dds_share.proofs.Together.{Bound}
 use Rattle.dds_share.proofs.Turned.{same-brick}
-use Rattle.dds_states.specs.Leaf.{leaf_for}
 use Rattle.dds_states.specs.declared.brick_state.BrickState.{BrickState}
 use Rattle.dds_states.specs.declared.brick_state.OpenOrder.{OpenOrder}
-use Rattle.dds_states.specs.declared.brick_state.OrderPhase.{OrderPhase}
-use Rattle.dds_states.specs.declared.brick_state.OrderPhase.TheVariants.{Copying, Installing, Leasing}
 use Rattle.dds_states.specs.declared.turn.Point.{Point}
 use Rattle.dds_states.specs.declared.turn.Point.TheVariants as point
 use Rattle.dds_copies.proofs.Before.{Before, its-own}
 use Rattle.dds_copies.proofs.Carried.{PutAt, another, itself, put-at}
-use Rattle.dds_copies.proofs.Leased.{free-under}
+use Rattle.dds_copies.proofs.Frozen.{servers-leased}
 use Rattle.dds_copies.proofs.OrderWas.{WasJoin, was-join}
 use Rattle.dds_copies.specs.Outside.{ComeOutside, IsOutside}
 
@@ -80,46 +68,22 @@ all-under name (p ∷ ps) = (
   all-map (λ q. covers name (the_key q.op) ≡ true → any_under ps name ≡ true) _ ps (λ q f. under-more name p ps q f) (all-under name ps),
 )
 
-no-leasing : (p : OrderPhase) → (p ≡ Leasing → ⊥) → order.is_leasing p ≡ false
-no-leasing Leasing h = absurd (h refl)
-no-leasing (Copying source) h = refl
-no-leasing (Installing made) h = refl
-
 module _ (z : Sizes) (cs : List Caller) (made : List Made) (n : Net) (g : Before z made n) (at from : ℕ) (l : Letter) (s : BrickState)
     (f : Takes z n at from l (a_brick s)) where
   -- what is pending is covered
   its-covered : Covering (own s)
   its-covered = let it : Standing (own s) × Covering (own s) = subst (NodeStands at) f.here (g.lying.stood.stands at) in it.1
 
-  -- under the name of a bound join of another brick nothing is
-  gave : (k : ℕ) (t : BrickState) (o : OpenOrder) → Bound n k t o → (at ≡ k → ⊥) → has o.granted at ≡ true → is_given s.locks.leases o.name k ≡ true
-  gave k t o b ne granted =
-      let not_leasing = (λ (e : o.phase ≡ Leasing). not-leasing n k o o.phase b.bound e) in
-      let leaf = some-leaf o.leaf (g.together.fixed k t o b.here b.live b.there b.join (no-leasing o.phase not_leasing)) in
-      (granted-holds k at t s o leaf.0 (n.channel k at) (n.channel at k) b.live f.live (unknown-of z n g.all k at t s b.here f.here f.live) b.there leaf.1
-      granted (λ e. absurd (not_leasing e)) (g.all.talk k at o.name t s b.here f.here (ne_eqb k at (λ e. ne (sym e))))).0
-
-  nothing-under : (k : ℕ) (t : BrickState) (o : OpenOrder) → Bound n k t o → (at ≡ k → ⊥) → (key : ℕ) → is_some (leaf_for s.leaves key) ≡ true
-      → covers o.name key ≡ true → any_under s.locks.pending o.name ≡ false
-  nothing-under k t o b ne key covered under =
-      let leaf = some-leaf (leaf_for s.leaves key) covered in
-      let mine = covered-by s.leaves key leaf.0 leaf.1 in
-      let deep = mine.name.depth + o.name.depth in
-      let first : mine.name.depth ≤ deep = omega arith in
-      let second : o.name.depth ≤ deep = omega arith in
-      let serves : Serves n at (record { bits = key; depth = deep }) s leaf.0 =
-      record { here = f.here; live = f.live; over = covers-over s.leaves key deep leaf.0 mine first } in
-      let granted = g.together.granted k at (record { bits = key; depth = deep }) t s o leaf.0 b ne serves (in-covers o.name key deep second under) in
-      free-under at s o.name k (its-own z made n g at s f.here) (gave k t o b ne granted)
-
-  all-unlocked : (k : ℕ) (t : BrickState) (o : OpenOrder) → Bound n k t o → (at ≡ k → ⊥) → AllByRecursion (Unlocked o.name) s.locks.pending
-  all-unlocked k t o b ne =
+  -- under the name of a bound join nothing is
+  all-unlocked : (k : ℕ) (t : BrickState) (o : OpenOrder) → Bound n k t o → AllByRecursion (Unlocked o.name) s.locks.pending
+  all-unlocked k t o b =
       all-map (λ p. (covers o.name (the_key p.op) ≡ true → any_under s.locks.pending o.name ≡ true) × Covers s.leaves p) (Unlocked o.name) s.locks.pending
       (λ p q. false-of (covers o.name (the_key p.op)) (λ under.
-      both_ways (any_under s.locks.pending o.name) (nothing-under k t o b ne (the_key p.op) q.1 under) (q.0 under)))
+      both_ways (any_under s.locks.pending o.name)
+      (servers-leased z n g.all g.together g.lying k at t s o (the_key p.op) b f.here f.live q.1 under).1 (q.0 under)))
       (all-both _ _ s.locks.pending (all-under o.name s.locks.pending) its-covered)
 
-  -- nor under that of its own join
+  -- nor under that of its own join, which may begin to copy
   own-unlocked : (o : OpenOrder) → WasJoin s o → AllByRecursion (Unlocked o.name) s.locks.pending
   own-unlocked o w =
       all-map (Covers s.leaves) (Unlocked o.name) s.locks.pending
@@ -131,7 +95,7 @@ module _ (z : Sizes) (cs : List Caller) (made : List Made) (n : Net) (g : Before
   bound-unlocked k t o b (itself is same) =
       own-unlocked o (was-join s from l o (ap (λ (x : BrickState). x.order) (same-brick (live_brick_turn s from l).state t same) ∙ b.there) b.join)
   bound-unlocked k t o b (another ne here) =
-      all-unlocked k t o (still-bound z cs n (brick_takes at from l s) f k t o here b) (λ is. ne (sym is))
+      all-unlocked k t o (still-bound z cs n (brick_takes at from l s) f k t o here b)
 
   turn-outside : (place : ℕ) → ComeOutside (moved z n (brick_takes at from l s)) (all_kept made (points_of place (brick_takes at from l s)))
   turn-outside place =

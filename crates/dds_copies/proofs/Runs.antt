@@ -16,25 +16,29 @@ use Rattle.dds_net.proofs.Steps.{step-moves}
 use Rattle.dds_net.specs.Event.{Event, History, goes, history_of, moved, points_of}
 use Rattle.dds_net.specs.Net.{Node, a_brick, a_library, net, nowhere, sizes_of}
 use Rattle.dds_order_talk.specs.Seen.{OrdersTalk}
-use Rattle.dds_pairs.proofs.LieKeeps.{run-lying}
+use Rattle.dds_pairs.proofs.LieKeeps.{AreLying, run-lying}
 use Rattle.dds_script.specs.Opening.{IsOpening, OpeningOf}
 use Rattle.dds_share.proofs.Events.{low-kept}
 use Rattle.dds_share.proofs.Facts.{AreAll, AreLow}
 use Rattle.dds_share.proofs.Openings.{start-low}
 use Rattle.dds_share.proofs.Runs.{run-together}
+use Rattle.dds_share.proofs.Together.{AreTogether}
 use Rattle.dds_states.specs.declared.brick_state.BrickState.{BrickState}
 use Rattle.dds_states.specs.declared.brick_state.OpenOrder.{OpenOrder}
 use Rattle.dds_values.proofs.Runs.{held-where-given}
 use Rattle.dds_values.specs.Below.{LeavesKept}
 use Rattle.dds_values.specs.Held.{JoinsServeTheTable, TalkAlong}
-use Rattle.dds_values.specs.Values.{table}
+use Rattle.dds_values.specs.Values.{bound_in, table}
 use Rattle.dds_copies.proofs.Asked.{joins-ask}
 use Rattle.dds_copies.proofs.Before.{Before}
 use Rattle.dds_copies.proofs.Keeps.{joins-kept}
 use Rattle.dds_copies.proofs.LeavesKeep.{leaves-kept}
-use Rattle.dds_copies.proofs.Outside.{points-keep}
+use Rattle.dds_copies.proofs.Frozen.{servers-leased}
+use Rattle.dds_copies.proofs.Outside.{all-outside, points-keep}
 use Rattle.dds_copies.proofs.PointsOutside.{come-outside}
 use Rattle.dds_copies.specs.Copies.{JoinsCopy}
+use Rattle.dds_copies.specs.Frozen.{BoundJoinsAreFrozen}
+use Rattle.dds_copies.specs.Outside.{ComeOutside}
 use Rattle.dds_copies.specs.Runs.{JoinsCopyTheTable, ValuesAreHeld}
 
 -- Along each run: as far as bricks that serve what their joins made hold the table, live bricks do, so what sources send is the table's; so
@@ -118,8 +122,16 @@ module _ (o : OpeningOf) (journal : List Step) (h : IsOpening o) (run : is_run o
           subst (λ j. LeavesKept (history_of (run_of o j)) e) (sym same) (now e (subst (λ j. IsNext o j y e) same following))
       by (earlier left same) = a.serves front left y e same following
 
-  next-along : (was rest : List Step) (x : Step) → was ++ x ∷ rest ≡ journal → is_possible (run_of o was) x ≡ true → Along o was → Along o (Grown was x)
-  next-along was rest x whole p a =
+  -- the points of the next step, and the nodes and channels behind it
+  record Next (was : List Step) (x : Step) : Type 0 where
+    more : List Made
+    made : (run_of o (Grown was x)).made ≡ (run_of o was).made ++ more
+    low : AreLow (sizes_of o) (net_of o (Grown was x))
+    outside : ComeOutside (net_of o (Grown was x)) more
+    copy : JoinsCopy (table (run_of o was).made) (net_of o (Grown was x))
+
+  next-is-so : (was rest : List Step) (x : Step) → was ++ x ∷ rest ≡ journal → is_possible (run_of o was) x ≡ true → Along o was → Next was x
+  next-is-so was rest x whole p a =
       let z = sizes_of o in
       let t = run_of o was in
       let n = net_of o was in
@@ -129,14 +141,22 @@ module _ (o : OpeningOf) (journal : List Step) (h : IsOpening o) (run : is_run o
       let after : net_of o (Grown was x) ≡ moved z n m.event = ap (λ (u : Trace). net z u.world) one ∙ m.after in
       let past : history_of (run_of o (Grown was x)) ≡ goes (history_of t) m.event = ap history_of one ∙ history-is z t x m in
       let more = all_kept t.made (points_of t.steps m.event) in
-      let low = low-kept z h.ranges.bricks h.ranges.libraries (history_of t) n m.event tt g.all.built m.fits a.low in
-      let copy = points-keep t.made more (moved z n m.event) low.parts (come-outside z t.callers t.made n g m.event m.fits t.steps)
-      (joins-kept z t.callers t.made n g m.event m.fits) in
       record {
-        low = subst (AreLow z) (sym after) low;
+        more = more;
+        made = ap (λ (i : History). i.made) past;
+        low = subst (AreLow z) (sym after) (low-kept z h.ranges.bricks h.ranges.libraries (history_of t) n m.event tt g.all.built m.fits a.low);
+        outside = subst (λ v. ComeOutside v more) (sym after) (come-outside z t.callers t.made n g m.event m.fits t.steps);
+        copy = subst (JoinsCopy (table t.made)) (sym after) (joins-kept z t.callers t.made n g m.event m.fits);
+      }
+
+  next-along : (was rest : List Step) (x : Step) → was ++ x ∷ rest ≡ journal → is_possible (run_of o was) x ≡ true → Along o was → Along o (Grown was x)
+  next-along was rest x whole p a =
+      let k = next-is-so was rest x whole p a in
+      record {
+        low = k.low;
         serves = serves-next was rest x whole a;
-        copy = subst (λ (ms : List Made). JoinsCopy (table ms) (net_of o (Grown was x))) (sym (ap (λ (i : History). i.made) past))
-            (subst (JoinsCopy (table (t.made ++ more))) (sym after) copy);
+        copy = subst (λ (ms : List Made). JoinsCopy (table ms) (net_of o (Grown was x))) (sym k.made)
+            (points-keep (run_of o was).made k.more (net_of o (Grown was x)) k.low.parts k.outside k.copy);
       }
 
   all-along : (was rest : List Step) → was ++ rest ≡ journal → is_run_from (run_of o was) rest ≡ true → Along o was → Along o journal
@@ -145,6 +165,14 @@ module _ (o : OpeningOf) (journal : List Step) (h : IsOpening o) (run : is_run o
       let q = and_parts (is_possible (run_of o was) x) (is_run_from (next (run_of o was) x) rest) p in
       all-along (Grown was x) rest (append_assoc was (x ∷ []) rest ∙ whole)
       (subst (λ (t : Trace). is_run_from t rest ≡ true) (sym (trace-grown (start o) was x)) q.1) (next-along was rest x whole q.0 a)
+
+-- a step of a run is possible
+possible-in : (t : Trace) (was : List Step) (x : Step) → is_run_from t (Grown was x) ≡ true → is_possible (trace_from t was) x ≡ true
+possible-in t [] x r = (and_parts (is_possible t x) true r).0
+possible-in t (y ∷ was) x r = possible-in (next t y) was x (and_parts (is_possible t y) (is_run_from (next t y) (Grown was x)) r).1
+
+next-possible : (o : OpeningOf) (was : List Step) (x : Step) → is_run o (Grown was x) ≡ true → is_possible (run_of o was) x ≡ true
+next-possible o was x r = possible-in (start o) was x r
 
 -- the opening has no open order
 abbrev HasNoOrder : Node → Type 0
@@ -174,19 +202,45 @@ run-along o journal h run talk = all-along o journal h run talk [] journal refl 
 pub values-held : ValuesAreHeld
 values-held o journal h run talk = held-where-given o journal h run talk (run-along o journal h run talk).serves
 
+-- a world that is reached
+record Reached (o : OpeningOf) (journal : List Step) : Type 0 where
+  along : Along o journal
+  all : AreAll (sizes_of o) (net_of o journal)
+  together : AreTogether (net_of o journal)
+  lying : AreLying (sizes_of o) (net_of o journal)
+
+run-reached : (o : OpeningOf) (journal : List Step) → IsOpening o → is_run o journal ≡ true → TalkAlong o journal → Reached o journal
+run-reached o journal h run talk =
+    let a = run-along o journal h run talk in
+    record {
+      along = a;
+      all = record {
+        low = a.low;
+        built = net-built (sizes_of o) (run_of o journal).world (sized-run o journal);
+        talk = front-talks o journal h run talk journal [] (append-nil journal);
+      };
+      together = run-together o journal h run (λ front more is. front-talks o journal h run talk front more is);
+      lying = run-lying o journal h run;
+    }
+
 pub joins-copy : JoinsCopyTheTable
 joins-copy o journal h run talk =
-    let a = run-along o journal h run talk in
-    let z = sizes_of o in
-    let whole = append-nil journal in
-    let all : AreAll z (net_of o journal) = record {
-      low = a.low;
-      built = net-built z (run_of o journal).world (sized-run o journal);
-      talk = front-talks o journal h run talk journal [] whole;
-    } in
-    let together = run-together o journal h run (λ front more is. front-talks o journal h run talk front more is) in
+    let r = run-reached o journal h run talk in
     record {
-      copied = a.copy;
-      asked = joins-ask z (net_of o journal) all together (run-lying o journal h run).stood.counted;
-      served = a.serves;
+      copied = r.along.copy;
+      asked = joins-ask (sizes_of o) (net_of o journal) r.all r.together r.lying.stood.counted;
+      served = r.along.serves;
+    }
+
+pub joins-frozen : BoundJoinsAreFrozen
+joins-frozen o journal h run talk =
+    let r = run-reached o journal h run talk in
+    record {
+      leased = servers-leased (sizes_of o) (net_of o journal) r.all r.together r.lying;
+      still = λ was more x k s join key whole bound under.
+          let so_far = front-run o journal h run talk was (x ∷ more) whole in
+          let p = next-possible o was x (front-run o journal h run talk (Grown was x) more (append_assoc was (x ∷ []) more ∙ whole)) in
+          let q = next-is-so o journal h run talk was more x whole p (run-along o was h so_far (along-talks o journal h run talk was (x ∷ more) whole)) in
+          ap (λ (ms : List Made). bound_in ms key) q.made
+          ∙ all-outside (run_of o was).made q.more join.name key under (q.outside.outside k s join bound);
     }

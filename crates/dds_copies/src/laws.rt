@@ -1,6 +1,7 @@
 //! The laws, as contracts of functions that do nothing.
 
 ghost use Rattle.dds_copies.specs.Ends.{JoinsEndWithTheTable};
+ghost use Rattle.dds_copies.specs.Frozen.{BoundJoinsAreFrozen};
 ghost use Rattle.dds_copies.specs.Law.{CopyingKeepsTheTable};
 ghost use Rattle.dds_copies.specs.Outside.{JoinsCopyOn};
 ghost use Rattle.dds_copies.specs.Runs.{JoinsCopyTheTable, ServersHold, ValuesAreHeld};
@@ -61,4 +62,11 @@ pub fn values_are_held()
 /// Of each such run: who serves a key has for it what the history left, or what its points left before that of the transaction pending on it.
 pub fn servers_hold_the_history()
     ensures { ServersHold }
+{}
+
+/// Of each such run: each live brick that serves a key under the name of a join that installs, or copies from a brick that lives or from which it has
+/// pairs or a part on its way, has given the join its lease, and has no key there pending; and no step behind which a join is so changes what the
+/// points left under its name.
+pub fn bound_joins_are_frozen()
+    ensures { BoundJoinsAreFrozen }
 {}
