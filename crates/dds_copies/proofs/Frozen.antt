@@ -67,4 +67,5 @@ module _ (z : Sizes) (n : Net) (all : AreAll z n) (together : AreTogether n) (ly
   has-leased = (has-given, free-under b t o.name k its-own has-given)
 
 pub servers-leased : (z : Sizes) (n : Net) → AreAll z n → AreTogether n → AreLying z n → ServersHaveLeased n
-servers-leased z n all together lying k b s t o key bound here live covered under = has-leased z n all together lying k b s t o key bound here live covered under
+servers-leased z n all together lying k b s t o key bound here live covered under =
+    has-leased z n all together lying k b s t o key bound here live covered under
