@@ -1,4 +1,4 @@
-use Rattle.std.proofs.Common.{◌≡◌, ℕ, ◌+◌, ◌==◌, ◌++◌, ◌∷◌, ◌||◌, inr, Bool, true, false, not, Option, Some, List, [], refl, sym, ap, ◌∙◌, subst}
+use Rattle.std.proofs.Common.{◌≡◌, ℕ, ◌+◌, ◌==◌, ◌∷◌, inr, Bool, true, false, not, Option, Some, List, [], refl, sym, ap, ◌∙◌, subst}
 use Rattle.std.proofs.lemmas.Bool.{and_parts, both_ways, eq-eqb, ne_eqb}
 use Rattle.std.specs.List.{AllByRecursion}
 use Rattle.dds_base.specs.BrickList.{has}
@@ -28,7 +28,7 @@ use Rattle.dds_states.specs.declared.brick_state.OpenOrder.{OpenOrder}
 use Rattle.dds_states.specs.declared.brick_state.OrderPhase.{OrderPhase}
 use Rattle.dds_states.specs.declared.brick_state.OrderPhase.TheVariants.{Copying, Installing}
 use Rattle.dds_world.specs.Groups.{wanted_leaf}
-use Rattle.dds_listed.proofs.Begun.{Begun, Behind, StandsAs, that-stands}
+use Rattle.dds_listed.proofs.Begun.{Begun, StandsAs, that-stands}
 
 -- How the open order stands behind the deeds of a turn, and whom it asks: the leaves of what it sends are so, and what it sends to install
 -- is still installed at the end.

@@ -1,4 +1,4 @@
-use Rattle.std.proofs.Common.{◌≡◌, ℕ, ◌==◌, ◌++◌, ◌&&◌, ◌⊎◌, inl, inr, Bool, true, false, Option, Some, None, List, [], ◌∷◌, refl, sym, ap, ◌∙◌, subst}
+use Rattle.std.proofs.Common.{◌≡◌, ℕ, ◌++◌, ◌⊎◌, inl, inr, true, Option, Some, None, List, [], ◌∷◌, refl, sym, ap, ◌∙◌, subst}
 use Rattle.std.proofs.lemmas.Bool.{cases_eq}
 use Rattle.dds_base.specs.BrickList.{has}
 use Rattle.dds_base.specs.declared.leaf.Leaf.{Leaf}
@@ -12,11 +12,11 @@ use Rattle.dds_law_own.proofs.Parted.{IsBoth}
 use Rattle.dds_letters.specs.declared.letter.Letter.{Letter}
 use Rattle.dds_letters.specs.declared.letter.Letter.TheVariants as letter
 use Rattle.dds_order_rows.specs.OwnOrder as order
-use Rattle.dds_orders.proofs.Deeds.{Seat, Stage, leaf_owed, nothing_owed, owed_at, part_owed, seat}
+use Rattle.dds_orders.proofs.Deeds.{Seat, owed_at, seat}
 use Rattle.dds_orders.proofs.Numbers.{has-append, the-order}
 use Rattle.dds_order_talk.proofs.Members.{ne-one}
 use Rattle.dds_orders.proofs.Counting.{not-none}
-use Rattle.dds_orders.proofs.Turns.{Hears, Turns, copies, copies_not, denies, gives, grants, grants_not, hears_other, installed_not, installs, installs_not}
+use Rattle.dds_orders.proofs.Turns.{Hears, copies, copies_not, denies, gives, grants, grants_not, hears_other, installed_not, installs, installs_not}
 use Rattle.dds_orders.proofs.Turns.{is_installed, is_refused, learns, letter-turns, owed, refused_not, releases, sends_none, sends_part}
 use Rattle.dds_orders.proofs.Standing.{heard-both}
 use Rattle.dds_states.specs.Turn.{BrickTurn, unknown, without}

@@ -32,8 +32,7 @@ use Rattle.dds_states.specs.Turn.{BrickTurn}
 use Rattle.dds_states.specs.declared.brick_state.BrickState.{BrickState}
 use Rattle.dds_states.specs.declared.brick_state.OpenOrder.{OpenOrder}
 use Rattle.dds_states.specs.declared.brick_state.OrderPhase.TheVariants.{Installing}
-use Rattle.dds_states.specs.declared.brick_state.Task.{Task}
-use Rattle.dds_states.specs.declared.brick_state.Task.TheVariants.{Join, Split}
+use Rattle.dds_states.specs.declared.brick_state.Task.TheVariants.{Split}
 use Rattle.dds_trie.specs.Trie.{LeafMap, name_at, put}
 use Rattle.dds_values.proofs.Leaves.{IsServed, keeps-none-new, same-keeps, whole-of}
 use Rattle.dds_values.specs.Below.{LeavesKeepHeld}
