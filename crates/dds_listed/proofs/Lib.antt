@@ -16,4 +16,5 @@ pub mod Begun
 pub mod OrderTrips
 pub mod Makes
 pub mod OrderTurns
+pub mod Grounds
 pub mod Worlds
