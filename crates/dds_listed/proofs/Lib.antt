@@ -18,3 +18,4 @@ pub mod Makes
 pub mod OrderTurns
 pub mod Grounds
 pub mod Worlds
+pub mod Openings
