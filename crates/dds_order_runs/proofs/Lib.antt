@@ -4,4 +4,5 @@ pub mod Placed
 pub mod Told
 pub mod Events
 pub mod Runs
+pub mod Along
 pub mod Group

@@ -58,7 +58,7 @@ run-known o journal h run =
     (run-keeps (sizes_of o) (Unit {0}) (λ h n e u. tt) (λ h n u. AreKnown n) journal (start o) h.ranges.bricks (known-kept (sizes_of o))
     (record { sized = sized-start o; books = tt; is = start-known o h }) run).is
 
-below : (o : OpeningOf) (journal : List Step) → IsOpening o → is_run o journal ≡ true → AreBelow (sizes_of o) (net_of o journal)
+pub below : (o : OpeningOf) (journal : List Step) → IsOpening o → is_run o journal ≡ true → AreBelow (sizes_of o) (net_of o journal)
 below o journal h run =
     record {
       stood = run-stood o journal h run;
@@ -75,7 +75,7 @@ new-makes o k x (no_node e) = subst (NodeMakes k) (sym e) tt
 new-makes o k x (new_a_brick e) = subst (NodeMakes k) (sym e) none-makes
 new-makes o k x (new_a_library high e) = subst (NodeMakes k) (sym e) tt
 
-start-talking : (o : OpeningOf) → AreTalking (sizes_of o) (net (sizes_of o) (start o).world)
+pub start-talking : (o : OpeningOf) → AreTalking (sizes_of o) (net (sizes_of o) (start o).world)
 start-talking o =
     record {
       given = start-given o;
