@@ -38,7 +38,7 @@ WasSo n k nowhere = Unit {0}
 WasSo n k (a_brick t) = t.stopped ≡ false → Before n k t
 WasSo n k (a_library s) = Unit {0}
 
-itself-was : (n : Net) (k : ℕ) (x : Node) → n.node k ≡ x → WasSo n k x
+pub itself-was : (n : Net) (k : ℕ) (x : Node) → n.node k ≡ x → WasSo n k x
 itself-was n k nowhere e = tt
 itself-was n k (a_brick t) e = λ live. record { state = t; here = e; live = live; keeps = λ leaf h. h }
 itself-was n k (a_library s) e = tt

@@ -17,4 +17,6 @@ pub mod OrderTrips
 pub mod Makes
 pub mod OrderTurns
 pub mod Grounds
+pub mod MadeFine
+pub mod OwnLeaves
 pub mod Worlds
