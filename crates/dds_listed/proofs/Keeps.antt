@@ -49,7 +49,7 @@ members-later n m was leaf h new b t here live lists =
     w.keeps leaf (h new b w.state w.here w.live lists)
 
 -- what is so of all leaves of a node
-in-order : (P Q : Leaf → Type 0) (q : Option OpenOrder) → ((leaf : Leaf) → P leaf → Q leaf) → InOrder P q → InOrder Q q
+pub in-order : (P Q : Leaf → Type 0) (q : Option OpenOrder) → ((leaf : Leaf) → P leaf → Q leaf) → InOrder P q → InOrder Q q
 in-order P Q None f h = tt
 in-order P Q (Some o) f h = (each-map P Q o.leaf f h.0, each-map P Q (made_leaf o.phase) f h.1)
 

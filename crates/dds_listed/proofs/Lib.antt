@@ -19,4 +19,8 @@ pub mod OrderTurns
 pub mod Grounds
 pub mod MadeFine
 pub mod OwnLeaves
+pub mod TakesGives
+pub mod ToldTrips
+pub mod ToldGives
+pub mod Owed
 pub mod Worlds

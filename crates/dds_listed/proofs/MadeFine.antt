@@ -1,6 +1,5 @@
-use Rattle.std.proofs.Common.{◌≡◌, ℕ, ◌^◌, ◌<◌, ◌⊎◌, inl, inr, Bool, true, false, not, Option, Some, None, List, ◌∷◌, refl, sym, ap, ◌∙◌, subst}
-use Rattle.std.proofs.lemmas.Bool.{both_ways, cases_Bool}
-use Rattle.std.specs.FinMap.{get}
+use Rattle.std.proofs.Common.{◌≡◌, ℕ, ◌^◌, ◌<◌, inl, inr, true, false, not, Some, sym, ap, ◌∙◌, subst}
+use Rattle.std.proofs.lemmas.Bool.{cases_Bool}
 use Rattle.std.specs.Prelude.{is_some}
 use Rattle.dds_base.specs.BrickList.{has}
 use Rattle.dds_base.specs.Name.{Name, covers}
@@ -10,11 +9,8 @@ use Rattle.dds_law_own.proofs.Changes.{own}
 use Rattle.dds_law_own.proofs.Lists as own_lists
 use Rattle.dds_law_own.proofs.Owned.{IsOrderly, made_name, orderly}
 use Rattle.dds_law_own.proofs.Parted.{IsBoth}
-use Rattle.dds_letters.specs.declared.letter.Letter.{Letter}
-use Rattle.dds_letters.specs.declared.letter.Letter.TheVariants as letter
 use Rattle.dds_net.specs.Net.{Net, a_brick}
 use Rattle.dds_order_rows.specs.OwnOrder as order
-use Rattle.dds_orders.proofs.Numbers.{the-order}
 use Rattle.dds_pairs.proofs.Names.{IsFit}
 use Rattle.dds_states.specs.Leaf.{leaf_for}
 use Rattle.dds_states.specs.declared.brick_state.BrickState.{BrickState}
@@ -23,7 +19,7 @@ use Rattle.dds_states.specs.declared.brick_state.OrderPhase.TheVariants.{Install
 use Rattle.dds_world.specs.Groups as world
 use Rattle.dds_listed.proofs.Begun.{As, Begun, IsWhole}
 use Rattle.dds_listed.proofs.Listed.{MembersAnswer}
-use Rattle.dds_listed.proofs.Made.{Covered, made-members}
+use Rattle.dds_listed.proofs.Made.{made-members}
 use Rattle.dds_listed.specs.Answers.{Answers, installs, serves}
 
 -- Live members answer for a leaf that an order made in a turn, where those that granted the order cover its keys.

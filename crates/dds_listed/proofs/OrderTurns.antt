@@ -6,7 +6,7 @@ use Rattle.dds_base.specs.declared.leaf.Leaf.{Leaf}
 use Rattle.dds_base.specs.declared.number.NodeNo.{NodeNo}
 use Rattle.dds_core.proofs.Lists.{all-append}
 use Rattle.dds_core.specs.Brick.{live_brick_turn}
-use Rattle.dds_law_leaf.proofs.Book.{Each, InLetter, InOrder}
+use Rattle.dds_law_leaf.proofs.Book.{Each, InOrder}
 use Rattle.dds_law_own.proofs.Changes.{own}
 use Rattle.dds_law_own.proofs.LetterWays.{IsOfAnother}
 use Rattle.dds_law_own.proofs.Parted.{IsBoth}
