@@ -1,4 +1,4 @@
-use Rattle.std.proofs.Common.{◌≡◌, Bool, true, false, Option, Some, None, [], refl, sym, ap, subst}
+use Rattle.std.proofs.Common.{◌≡◌, Bool, true, false, Option, Some, None, List, [], refl, sym, ap, subst}
 use Rattle.std.proofs.lemmas.Bool.{both_ways}
 use Rattle.std.specs.Prelude.{if◌then◌else◌}
 use Rattle.dds_answered.proofs.Results.{Result, applied, got_absent, got_value, result}
@@ -10,14 +10,12 @@ use Rattle.dds_base.specs.declared.number.NodeNo.{NodeNo}
 use Rattle.dds_base.specs.declared.op.Reply.{Reply}
 use Rattle.dds_base.specs.declared.op.Reply.TheVariants as reply
 use Rattle.dds_books.specs.Placed.{PhaseOk}
-use Rattle.dds_call_rows.specs.Library.{CallTurn, aborted_in, applied_in, call_concerns, first_flag, goes_without, got_in, lost_or_applied, replies, stays}
-use Rattle.dds_call_rows.specs.Library.{told_in, vote_in}
+use Rattle.dds_call_rows.specs.Library.{CallTurn, call_concerns, first_flag, goes_without, got_in, lost_or_applied, replies, stays}
 use Rattle.dds_core.specs.LibraryTurn.{call_row}
 use Rattle.dds_history.specs.Map.{reply_with}
 use Rattle.dds_letters.specs.declared.letter.Letter.{Letter}
 use Rattle.dds_letters.specs.declared.letter.Letter.TheVariants as letter
 use Rattle.dds_letters.specs.declared.refusal.Answer.{Answer}
-use Rattle.dds_letters.specs.declared.refusal.Ballot.{Ballot}
 use Rattle.dds_net.specs.Net.{Sizes}
 use Rattle.dds_states.specs.Turn.{is_none_left, without}
 use Rattle.dds_states.specs.declared.library_state.Desk.{Desk}
@@ -48,62 +46,41 @@ first-kept : (txn : Txn) (c : OpenCall) (own : Option Bool) (flag : Bool) → ke
 first-kept txn c None flag k = heard txn refl
 first-kept txn c (Some x) flag k = had k
 
-applied-reply : (d : Desk) (c : OpenCall) (from : NodeNo) (txn : Txn) (flag : Bool) (p : Phase) (r : Reply) → c.phase ≡ p → commits_now p ≡ true
-    → (applied_in d c from flag p).went.reply ≡ Some r → IsWithFlag c (letter.Applied txn flag) r
-applied-reply d c from txn flag (phase.Committing leaf list waiting own) r is k e =
-    let left = without waiting from in
-    let was = first_flag own flag in
-    reply-if (IsWithFlag c (letter.Applied txn flag) r) r (is_none_left left) (replies d (reply_with c.request.op was))
-    (stays d [] (record c { phase = phase.Committing leaf list left (Some was) }))
-    (λ q. record { was = was; kept = first-kept txn c own flag (ap kept_flag is); reply_is = same-reply (reply_with c.request.op was) r q }) (λ q. cc) e
-applied-reply d c from txn flag other r is k e = cc
-
-lost-reply : (d : Desk) (c : OpenCall) (leaf : Leaf) (own : Option Bool) (r : Reply) → kept_flag c.phase ≡ own → (lost_or_applied d c leaf own).went.reply ≡ Some r
-    → is_result r ≡ true → IsWithFlag c letter.Notice r
-lost-reply d c leaf None r is e h =
-    absurd (both_ways (is_result r) (sym (ap is_result (same-reply (reply.Lost leaf.name) r e))) h)
+lost-reply : (d : Desk) (c : OpenCall) (leaf : Leaf) (own : Option Bool) (r : Reply) → kept_flag c.phase ≡ own
+    → (lost_or_applied d c leaf own).went.reply ≡ Some r → is_result r ≡ true → IsWithFlag c letter.Notice r
+lost-reply d c leaf None r is e h = absurd (both_ways (is_result r) (sym (ap is_result (same-reply (reply.Lost leaf.name) r e))) h)
 lost-reply d c leaf (Some was) r is e h = record { was = was; kept = had is; reply_is = same-reply (reply_with c.request.op was) r e }
 
-without-reply : (d : Desk) (c : OpenCall) (y : NodeNo) (p : Phase) (r : Reply) → c.phase ≡ p → commits_now p ≡ true
-    → (goes_without d c y p).went.reply ≡ Some r → is_result r ≡ true → IsWithFlag c letter.Notice r
-without-reply d c y (phase.Committing leaf list waiting was) r is k e h =
-    let left = without waiting y in
-    reply-if (IsWithFlag c letter.Notice r) r (is_none_left left) (lost_or_applied d c leaf was)
-    (stays d [] (record c { phase = phase.Committing leaf list left was })) (λ q. lost-reply d c leaf was r (ap kept_flag is) q h) (λ q. cc) e
-without-reply d c y other r is k e h = cc
+-- a call that commits is answered at an Applied or a Notice, where no member is left that it waits for
+module _ (d : Desk) (call : OpenCall) (from : NodeNo) (leaf : Leaf) (list waiting : List NodeNo) (own : Option Bool) where
+  abbrev c : OpenCall
+  c = record call { phase = phase.Committing leaf list waiting own }
 
--- a call that commits is answered nothing at other letters
-got-none : (d : Desk) (c : OpenCall) (from : NodeNo) (a : Answer) (p : Phase) (r : Reply) → commits_now p ≡ true
-    → (got_in d c from a p).went.reply ≡ Some r → ⊥
-got-none d c from a (phase.Committing leaf list waiting was) r k e = cc
-got-none d c from a other r k e = cc
+  abbrev left : List NodeNo
+  left = without waiting from
 
-vote-none : (d : Desk) (c : OpenCall) (from : NodeNo) (v : Ballot) (p : Phase) (r : Reply) → commits_now p ≡ true
-    → (vote_in d c from v p).went.reply ≡ Some r → ⊥
-vote-none d c from v (phase.Committing leaf list waiting was) r k e = cc
-vote-none d c from v other r k e = cc
+  abbrev onward : Option Bool → OpenCall
+  onward was = record c { phase = phase.Committing leaf list left was }
 
-aborted-none : (d : Desk) (c : OpenCall) (from : NodeNo) (p : Phase) (r : Reply) → commits_now p ≡ true
-    → (aborted_in d c from p).went.reply ≡ Some r → ⊥
-aborted-none d c from (phase.Committing leaf list waiting was) r k e = cc
-aborted-none d c from other r k e = cc
+  committing-reply : (l : Letter) (r : Reply) → (call_row d c from l).went.reply ≡ Some r → is_result r ≡ true → IsWithFlag c l r
+  committing-reply (letter.Applied txn flag) r e h =
+      let was = first_flag own flag in
+      reply-if (IsWithFlag c (letter.Applied txn flag) r) r (is_none_left left) (replies d (reply_with c.request.op was)) (stays d [] (onward (Some was)))
+      (λ q. record { was = was; kept = first-kept txn c own flag refl; reply_is = same-reply (reply_with c.request.op was) r q }) (λ q. cc) e
+  committing-reply letter.Notice r e h =
+      let P = IsWithFlag c letter.Notice r in
+      reply-if P r (call_concerns c.phase from) (goes_without d c from c.phase) (stays d [] c)
+      (λ q. reply-if P r (is_none_left left) (lost_or_applied d c leaf own) (stays d [] (onward own)) (λ f. lost-reply d c leaf own r refl f h) (λ f. cc) q)
+      (λ q. cc) e
+  committing-reply other r e h = cc
 
-told-none : (d : Desk) (c : OpenCall) (from : NodeNo) (leaf : Option Leaf) (p : Phase) (r : Reply) → commits_now p ≡ true
-    → (told_in d c from leaf p).went.reply ≡ Some r → ⊥
-told-none d c from leaf (phase.Committing l list waiting was) r k e = cc
-told-none d c from leaf other r k e = cc
-
-committing-reply : (d : Desk) (c : OpenCall) (from : NodeNo) (l : Letter) (r : Reply) → commits_now c.phase ≡ true
+commits-reply : (d : Desk) (c : OpenCall) (from : NodeNo) (p : Phase) (l : Letter) (r : Reply) → p ≡ c.phase → commits_now p ≡ true
     → (call_row d c from l).went.reply ≡ Some r → is_result r ≡ true → IsWithFlag c l r
-committing-reply d c from (letter.Got txn a) r k e h = absurd (got-none d c from a c.phase r k e)
-committing-reply d c from (letter.Vote txn vote) r k e h = absurd (vote-none d c from vote c.phase r k e)
-committing-reply d c from (letter.Applied txn was) r k e h = applied-reply d c from txn was c.phase r refl k e
-committing-reply d c from (letter.Aborted txn) r k e h = absurd (aborted-none d c from c.phase r k e)
-committing-reply d c from (letter.MapTell txn leaf) r k e h = absurd (told-none d c from leaf c.phase r k e)
-committing-reply d c from letter.Notice r k e h =
-    reply-if (IsWithFlag c letter.Notice r) r (call_concerns c.phase from) (goes_without d c from c.phase) (stays d [] c)
-    (λ q. without-reply d c from c.phase r refl k q h) (λ q. cc) e
-committing-reply d c from other r k e h = cc
+commits-reply d c from (phase.Committing leaf list waiting own) l r is k e h =
+    let same : record c { phase = phase.Committing leaf list waiting own } ≡ c = (λ i. record c { phase = is i }) in
+    subst (λ x. IsWithFlag x l r) same
+    (committing-reply d c from leaf list waiting own l r (subst (λ x. (call_row d x from l).went.reply ≡ Some r) (sym same) e) h)
+commits-reply d c from other l r is k e h = cc
 
 -- what a get was told answers a get alone
 getting : (z : Sizes) (known : NodeSet) (d : Desk) (c : OpenCall) (from : NodeNo) (a : Answer) (p : Phase) (r : Reply) → PhaseOk z known c.request.op p
@@ -123,4 +100,4 @@ update-reply z known d c from l r ok update e h = by (result d c from l r e h)
     by : Result c l r → IsWithFlag c l r
     by (got_value txn value is f) = absurd (both_ways (is_get c.request.op) update (got-gets z known d c from l txn _ r ok is e))
     by (got_absent txn is f) = absurd (both_ways (is_get c.request.op) update (got-gets z known d c from l txn _ r ok is e))
-    by (applied k flag) = committing-reply d c from l r k e h
+    by (applied k flag) = commits-reply d c from c.phase l r refl k e h
