@@ -30,7 +30,7 @@ use Rattle.dds_copies.specs.Copies.{AsksNext, HoldsUnder, TellsNext}
 -- A brick that has given a lease and has the leaf of its name holds the table there, since nothing is pending under a lease: so what it
 -- answers at a CopyAsk is the next part.
 
-free-under : (me : ℕ) (s : BrickState) (name : Name) (to : NodeNo) → IsBoth me (own s) → is_given s.locks.leases name to ≡ true
+pub free-under : (me : ℕ) (s : BrickState) (name : Name) (to : NodeNo) → IsBoth me (own s) → is_given s.locks.leases name to ≡ true
     → any_under s.locks.pending name ≡ false
 free-under me s name to both given =
     let it = given-is (Free s.locks.pending) s.locks.leases name to both.0.free given in

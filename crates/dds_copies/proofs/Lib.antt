@@ -3,6 +3,7 @@ pub mod Parts
 pub mod Sources
 pub mod Leased
 pub mod Points
+pub mod Missing
 pub mod Joins
 pub mod OrderRows
 pub mod OtherRows
@@ -11,6 +12,19 @@ pub mod Tells
 pub mod Outside
 pub mod Stops
 pub mod Finishes
+pub mod Asked
+pub mod OrderWas
+pub mod Carried
+pub mod Before
+pub mod SourceSends
+pub mod JoinHears
+pub mod Keeps
+pub mod Frozen
+pub mod PointsOutside
+pub mod Served
+pub mod LeavesKeep
+pub mod Runs
+pub mod Servers
 pub mod Steps
 pub mod Ends
 pub mod SourceRuns

@@ -36,7 +36,7 @@ none-holds-if p rest key name true e over free h =
     absurd (both_ways (covers name key) (subst (λ k. covers name k ≡ false) (same-key (the_key p.op) key e) free) over)
 none-holds-if p rest key name false e over free h = h
 
-neither : (a b : Bool) → (a || b) ≡ false → (a ≡ false) × (b ≡ false)
+pub neither : (a b : Bool) → (a || b) ≡ false → (a ≡ false) × (b ≡ false)
 neither true b h = cc
 neither false b h = (refl, h)
 

@@ -34,7 +34,7 @@ other-tells : (table : Map) (o : OpenOrder) (l : Letter) → is_of_orders l ≡ 
 other-tells table o (letter.CopyPart number last pairs) h = cc
 other-tells table o other h = tt
 
-others-tell : (table : Map) (o : OpenOrder) (ls : List (NodeNo × Letter)) → AreOthers ls → AllTell table o ls
+pub others-tell : (table : Map) (o : OpenOrder) (ls : List (NodeNo × Letter)) → AreOthers ls → AllTell table o ls
 others-tell table o [] h = tt
 others-tell table o (l ∷ ls) h = (other-tells table o l.1 h.0, others-tell table o ls h.1)
 
@@ -101,7 +101,7 @@ asked-if table s from number o name place false e h = tt
 asked-if table s from number o name place true e h =
     ((λ same. (sent-if table s from number o name place true (h same).named (h same).at ((h same).holds e)).0 same), tt)
 
-tells : (table : Map) (s : BrickState) (from : NodeNo) (l : Letter) (o : OpenOrder) → IsOfAnother s from l → SourceHolds table s from o l
+pub tells : (table : Map) (s : BrickState) (from : NodeNo) (l : Letter) (o : OpenOrder) → IsOfAnother s from l → SourceHolds table s from o l
     → AllTell table o (live_brick_turn s from l).out.letters
 tells table s from (letter.CopyAsk number name place) o h k =
     asked-if table s from number o name place (is_given s.locks.leases name from && is_some (get s.leaves name)) refl k

@@ -4,3 +4,5 @@ pub mod Turns
 pub mod Outside
 pub mod Ends
 pub mod Sources
+pub mod Frozen
+pub mod Runs

@@ -1,8 +1,10 @@
 //! The laws, as contracts of functions that do nothing.
 
 ghost use Rattle.dds_copies.specs.Ends.{JoinsEndWithTheTable};
+ghost use Rattle.dds_copies.specs.Frozen.{BoundJoinsAreFrozen};
 ghost use Rattle.dds_copies.specs.Law.{CopyingKeepsTheTable};
 ghost use Rattle.dds_copies.specs.Outside.{JoinsCopyOn};
+ghost use Rattle.dds_copies.specs.Runs.{JoinsCopyTheTable, ServersHold, ValuesAreHeld};
 ghost use Rattle.dds_copies.specs.Sources.{SourcesSendTheTable};
 ghost use Rattle.dds_copies.specs.Turns.{TurnsKeepCopies, TurnsTellNext};
 
@@ -37,8 +39,34 @@ pub fn turns_tell_what_is_next()
     ensures { TurnsTellNext }
 {}
 
-/// Of each cluster's nodes and what is on its way between them: points of keys outside the name of each bound join keep what the bound joins
-/// have copied, and so does a node that stops.
+/// Of each cluster's nodes and what is on its way between them: points that are reads, or of keys outside the name of each bound join, keep what
+/// open joins have copied, and so does a node that stops.
 pub fn joins_copy_on()
     ensures { JoinsCopyOn }
+{}
+
+/// In each world of each run, with stops, splits and joins, at whose places orders and their members talk as the table of conversations says: what
+/// each live brick's open join has copied is a beginning of what the points left under its name, and all of it while the join installs; a part on
+/// its way to it is the next one, and what it asks of a live source is what follows. At each step of such a run a brick that serves the leaf that
+/// its own join made has what the points left of each key that it comes to cover.
+pub fn joins_copy_the_table()
+    ensures { JoinsCopyTheTable }
+{}
+
+/// Of each such run: the points, reads that no answer used among them, are legal, and so is the history; and each live brick has for each key of its
+/// leaves what the points left, or, where a transaction is pending on it, what they left before that one's point.
+pub fn values_are_held()
+    ensures { ValuesAreHeld }
+{}
+
+/// Of each such run: who serves a key has for it what the history left, or what its points left before that of the transaction pending on it.
+pub fn servers_hold_the_history()
+    ensures { ServersHold }
+{}
+
+/// Of each such run: each live brick that serves a key under the name of a join that installs, or copies from a brick that lives or from which it has
+/// pairs or a part on its way, has given the join its lease, and has no key there pending; and no step behind which a join is so changes what the
+/// points left under its name.
+pub fn bound_joins_are_frozen()
+    ensures { BoundJoinsAreFrozen }
 {}

@@ -1,5 +1,9 @@
 pub mod Listed
 pub mod Unlisted
+pub mod FreshTurns
+pub mod Fresh
+pub mod TellsOrders
+pub mod Tells
 pub mod Keeps
 pub mod Installing
 pub mod Later
@@ -8,6 +12,9 @@ pub mod Siblings
 pub mod Replaced
 pub mod SiblingMembers
 pub mod Made
-pub mod LeafDeeds
-pub mod LeafHears
+pub mod Begun
+pub mod OrderTrips
+pub mod Makes
+pub mod OrderTurns
+pub mod Grounds
 pub mod Worlds

@@ -25,7 +25,7 @@ use Rattle.dds_listed.specs.Answers.{Answers, serves}
 
 -- A leaf that an order makes lists the brick and members that granted; where these cover the order's keys, all live members answer for it.
 
-or-first : (a b : Bool) → (a || b) ≡ true → b ≡ false → a ≡ true
+pub or-first : (a b : Bool) → (a || b) ≡ true → b ≡ false → a ≡ true
 or-first true b h e = refl
 or-first false b h e = let no : false ≡ true = sym e ∙ h in cc
 

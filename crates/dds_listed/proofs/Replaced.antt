@@ -54,14 +54,14 @@ rival-prev known mine leaf h =
 
 pub came-members : (b : Book) (gone : ℕ → Type 0) (known : ℕ → Bool) (mine leaf : Leaf) → AllList b gone → ((n : ℕ) → known n ≡ true → gone n)
     → Known b mine → Known b leaf → (leaf.name ≡ mine.name → ⊥) → (is_some (successor mine leaf) || is_better_rival known mine leaf) ≡ true
-    → (is_better_rival known mine leaf ≡ true → maker_known known leaf.stamp ≡ true) → (n : ℕ) → has leaf.list n ≡ true
+    → (is_some (successor mine leaf) ≡ false → maker_known known leaf.stamp ≡ true) → (n : ℕ) → has leaf.list n ≡ true
     → (has mine.list n ≡ true) ⊎ gone n
 came-members b gone known mine leaf h f first also other comes maker n k = by (is_some (successor mine leaf)) refl comes
   where
     by : (c : Bool) → is_some (successor mine leaf) ≡ c → (c || is_better_rival known mine leaf) ≡ true → (has mine.list n ≡ true) ⊎ gone n
     by true e i = inl (split-lists mine leaf (successor mine leaf) refl e other n k)
     by false e i =
-        let stopped = f leaf.stamp.maker (and_parts (nat_lt leaf.stamp.maker 80) (known leaf.stamp.maker) (maker i)).1 in
+        let stopped = f leaf.stamp.maker (and_parts (nat_lt leaf.stamp.maker 80) (known leaf.stamp.maker) (maker e)).1 in
         beside-lists b gone h leaf mine also first (sym (rival-prev known mine leaf i)) stopped n k
 
 -- maps

@@ -32,7 +32,7 @@ pub record Comes (b : Book) (gone : ℕ → Type 0) (known : ℕ → Bool) (mine
   pub new : Known b leaf
   pub named : IsName leaf.name
   pub comes : (is_some (successor mine leaf) || is_better_rival known mine leaf) ≡ true
-  pub maker : is_better_rival known mine leaf ≡ true → maker_known known leaf.stamp ≡ true
+  pub maker : is_some (successor mine leaf) ≡ false → maker_known known leaf.stamp ≡ true
 
 pub sibling-members : (z : Sizes) (m : Net) (b : Book) (known : ℕ → Bool) (k : LeafMap) (mine leaf : Leaf) → AreNamed z m → Comes b (Gone m) known mine leaf
     → Replaces k mine leaf → (mine.name.depth == leaf.name.depth) ≡ false → MembersAnswer m mine → MembersAnswer m leaf → MembersAnswer m (sibling leaf)

@@ -19,7 +19,7 @@ use Rattle.dds_net.proofs.Runs.{IsBuilt}
 use Rattle.dds_net.specs.Event.{Event, nothing, unheard, unasked, brick_takes, brick_told, brick_stops, library_takes, library_asked, library_stops}
 use Rattle.dds_net.specs.Event.{Takes, moved}
 use Rattle.dds_net.specs.Event as event
-use Rattle.dds_net.specs.Net.{Net, Node, nowhere, a_brick, a_library, Sizes}
+use Rattle.dds_net.specs.Net.{Net, a_brick, Sizes}
 use Rattle.dds_order_talk.proofs.Fitting.{NodeFits, fits-kept, wanted-of}
 use Rattle.dds_order_talk.proofs.Givers.{AreGiven, given-kept}
 use Rattle.dds_order_talk.proofs.Letters.{AreWithin}
@@ -44,17 +44,12 @@ use Rattle.dds_pairs.proofs.Names.{Fit}
 use Rattle.dds_states.specs.declared.brick_state.BrickState.{BrickState}
 use Rattle.dds_states.specs.declared.brick_state.OpenOrder.{OpenOrder}
 use Rattle.dds_order_runs.proofs.Grants.{granted-told}
-use Rattle.dds_order_runs.proofs.Makes.{OrderMakes, heard-makes, none-makes, path-makes}
+use Rattle.dds_listed.proofs.Makes.{NodeMakes, OrderMakes, heard-makes, none-makes, path-makes}
 use Rattle.dds_order_runs.proofs.Placed.{lists-once}
 use Rattle.dds_order_runs.proofs.Told.{installs-it, order-of, phase-of}
 
 -- Each event keeps that orders and their members talk by the table, over the laws below and where no leaf of a live brick lists another
 -- one that joins its name.
-
-abbrev pub NodeMakes : ℕ → Node → Type 0
-NodeMakes k nowhere = Unit {0}
-NodeMakes k (a_brick s) = OrderMakes s.order
-NodeMakes k (a_library s) = Unit {0}
 
 -- the laws below, of one world
 pub record AreBelow (z : Sizes) (n : Net) : Type 0 where

@@ -45,8 +45,8 @@ use Rattle.dds_states.specs.declared.brick_state.OrderPhase.TheVariants.{Copying
 use Rattle.dds_talk.proofs.Grounds.{known-over}
 use Rattle.dds_trie.specs.Trie.{LeafMap}
 use Rattle.dds_world.specs.Places.{IsLive, reached}
-use Rattle.dds_order_runs.proofs.Events.{AreBelow, AreTalking, NodeMakes, talking-kept}
-use Rattle.dds_order_runs.proofs.Makes.{none-makes}
+use Rattle.dds_order_runs.proofs.Events.{AreBelow, AreTalking, talking-kept}
+use Rattle.dds_listed.proofs.Makes.{NodeMakes, none-makes}
 use Rattle.dds_order_runs.specs.Law.{GrantedMembersHold, HasOf, JoinersStayUnlisted, OrdersAlwaysTalk}
 
 -- Orders and their members talk by the table along each run at whose places no leaf of a live brick lists another one that joins its name;

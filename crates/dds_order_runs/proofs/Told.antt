@@ -43,7 +43,7 @@ use Rattle.dds_states.specs.declared.brick_state.OpenOrder.{OpenOrder}
 use Rattle.dds_states.specs.declared.brick_state.OrderPhase.TheVariants.{Installing}
 use Rattle.dds_world.specs.Groups as world
 use Rattle.dds_order_runs.proofs.Installs.{Installed, given-finds, install-done, new-made, own-made}
-use Rattle.dds_order_runs.proofs.Makes.{OrderMakes}
+use Rattle.dds_listed.proofs.Makes.{OrderMakes}
 
 -- A member that is told to install the leaf of a live brick's open order installs it.
 

@@ -1,4 +1,5 @@
-use Rattle.std.proofs.Common.{◌≡◌, inl, inr, ℕ, ◌+◌, Bool, true, false, Option, Some, None, List, [], ◌∷◌, refl, ap, ◌∙◌}
+use Rattle.std.proofs.Common.{◌≡◌, ◌⊎◌, inl, inr, ℕ, ◌+◌, Bool, true, false, Option, Some, None, List, [], ◌∷◌, refl, sym, ap, ◌∙◌}
+use Rattle.std.proofs.lemmas.Bool.{both_ways}
 use Rattle.std.specs.FinMap.{remove}
 use Rattle.std.specs.Prelude.{if◌then◌else◌}
 use Rattle.dds_base.specs.declared.leaf.Leaf.{Leaf}
@@ -53,14 +54,15 @@ module _ (p : OpenOrder) where
       finish made has_made (ap (λ (x : Own). x.leaves) (served-if s o made o.task)
       ∙ served-same s.leaves o p made o.task same.1 ∙ ap (served s.leaves p made) same.2)
 
-  installs_from : (s : BrickState) (o : OpenOrder) (made : Leaf) (nodes : List NodeNo) → IsOf p o → HasMadeLeaf s.number s.made p made
+  installs_from : (s : BrickState) (o : OpenOrder) (made : Leaf) (nodes : List NodeNo) → IsOf p o → (nodes ≡ [] → HasMadeLeaf s.number s.made p made)
       → FinishOf p s (order.installs_from (record s { made = s.made + 1 }) o made nodes)
-  installs_from s o made [] same has_made = finishes (record s { made = s.made + 1 }) s.made o made same has_made
+  installs_from s o made [] same has_made = finishes (record s { made = s.made + 1 }) s.made o made same (has_made refl)
   installs_from s o made (n ∷ ns) same has_made = goes_on refl
 
-  installs : (s : BrickState) (o : OpenOrder) (leaf : Leaf) → IsOf p o → o.leaf ≡ Some leaf → FinishOf p s (order.installs s o leaf)
-  installs s o leaf same fixed =
-      installs_from s o (order.made_leaf s o leaf o.task) (without (order.parting s o leaf) s.number) same (at_once o leaf s same fixed refl refl refl)
+  installs : (s : BrickState) (o : OpenOrder) (leaf : Leaf) → IsOf p o → p.leaf ≡ Some leaf → o.leaf ≡ Some leaf → FinishOf p s (order.installs s o leaf)
+  installs s o leaf same was fixed =
+      installs_from s o (order.made_leaf s o leaf o.task) (without (order.parting s o leaf) s.number) same
+      (λ alone. at_once o leaf s same was fixed refl refl alone refl)
 
   installs_on : (s : BrickState) (o : OpenOrder) (made : Leaf) → IsOf p o → p.phase ≡ Installing made → FinishOf p s (order.installs_on s o made)
   installs_on s o made same e = finish-when s (is_none_left o.waiting) (λ f. finishes s s.made o made same (before e)) (λ f. goes_on refl)
@@ -69,13 +71,19 @@ module _ (p : OpenOrder) where
   copies_from s o [] = ends s o answered.NoSource
   copies_from s o (n ∷ ns) = goes_on refl
 
-  leased_all : (s : BrickState) (o : OpenOrder) (leaf : Leaf) (t : Task) → IsOf p o → o.leaf ≡ Some leaf → FinishOf p s (order.leased_all s o leaf t)
-  leased_all s o leaf (Join via) same fixed = copies_from s o (order.sources s o leaf)
-  leased_all s o leaf Split same fixed = installs s o leaf same fixed
+  -- only a join's leaf changes
+  was-fixed : (o : OpenOrder) (leaf : Leaf) → o.task ≡ Split → o.leaf ≡ Some leaf → (o.leaf ≡ p.leaf) ⊎ (is_join o.task ≡ true) → p.leaf ≡ Some leaf
+  was-fixed o leaf split fixed (inl same) = sym same ∙ fixed
+  was-fixed o leaf split fixed (inr join) = absurd (both_ways (is_join o.task) (ap is_join split) join)
+
+  leased_all : (s : BrickState) (o : OpenOrder) (leaf : Leaf) (t : Task) → o.task ≡ t → IsOf p o → o.leaf ≡ Some leaf
+      → FinishOf p s (order.leased_all s o leaf t)
+  leased_all s o leaf (Join via) is same fixed = copies_from s o (order.sources s o leaf)
+  leased_all s o leaf Split is same fixed = installs s o leaf same (was-fixed o leaf is fixed same.3) fixed
 
   leased_all_at : (s : BrickState) (o : OpenOrder) (leaf : Option Leaf) → IsOf p o → o.leaf ≡ leaf → FinishOf p s (order.leased_all_at s o leaf)
   leased_all_at s o None same fixed = goes_on refl
-  leased_all_at s o (Some leaf) same fixed = leased_all s o leaf o.task same fixed
+  leased_all_at s o (Some leaf) same fixed = leased_all s o leaf o.task refl same fixed
 
   pub leases_on : (s : BrickState) (o : OpenOrder) → IsOf p o → FinishOf p s (order.leases_on s o)
   leases_on s o same = finish-when s (is_none_left o.waiting) (λ e. leased_all_at s o o.leaf same refl) (λ e. goes_on refl)
@@ -100,13 +108,14 @@ module _ (p : OpenOrder) where
   grants s o from leaf (Join via) e same = granted_join s o from leaf o.leaf (ap is_join e) same
   grants s o from leaf Split e same = leases_on s o same
 
-  copied_all : (s : BrickState) (o : OpenOrder) (leaf : Option Leaf) → IsOf p o → o.leaf ≡ leaf → FinishOf p s (order.copied_all s o leaf)
-  copied_all s o None same fixed = goes_on refl
-  copied_all s o (Some leaf) same fixed = installs s o leaf same fixed
+  copied_all : (s : BrickState) (o : OpenOrder) (leaf : Option Leaf) → IsOf p o → p.leaf ≡ leaf → o.leaf ≡ leaf → FinishOf p s (order.copied_all s o leaf)
+  copied_all s o None same was fixed = goes_on refl
+  copied_all s o (Some leaf) same was fixed = installs s o leaf same was fixed
 
-  pub copied_on : (s : BrickState) (o : OpenOrder) (source : NodeNo) (last : Bool) → IsOf p o → FinishOf p s (order.copied_on s o source last)
-  copied_on s o source true same = copied_all s o o.leaf same refl
-  copied_on s o source false same = goes_on refl
+  pub copied_on : (s : BrickState) (o : OpenOrder) (source : NodeNo) (last : Bool) → IsOf p o → o.leaf ≡ p.leaf
+      → FinishOf p s (order.copied_on s o source last)
+  copied_on s o source true same still = copied_all s o o.leaf same (sym still) refl
+  copied_on s o source false same still = goes_on refl
 
   pub installed_in : (s : BrickState) (o : OpenOrder) (phase : OrderPhase) → p.phase ≡ phase → IsOf p o → FinishOf p s (order.installed_in s o phase)
   installed_in s o Leasing e same = goes_on refl

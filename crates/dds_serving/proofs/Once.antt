@@ -1,4 +1,5 @@
 use Rattle.std.proofs.Common.{◌≡◌, inl, ℕ, ◌+◌, ◌++◌, ◌==◌, ◌&&◌, ◌||◌, Bool, true, false, Option, Some, None, refl, sym, ap, ◌∙◌}
+use Rattle.std.proofs.lemmas.Bool.{both_ways}
 use Rattle.std.specs.FinMap.{get, keys}
 use Rattle.std.specs.List.{list_any}
 use Rattle.std.specs.Prelude.{is_some, if◌then◌else◌}
@@ -58,7 +59,7 @@ once-when s told c {t = t} {u = u} f g = if-keeps (ChangeOnce s told) c t u f g
 
 once-as : (s : BrickState) (told : Option Leaf) (t u : BrickTurn) → u.state.leaves ≡ t.state.leaves → ChangeOnce s told t → ChangeOnce s told u
 once-as s told t u e (rests (stays f)) = rests (stays (e ∙ f))
-once-as s told t u e (rests (taken mine leaf is there comes f)) = rests (taken mine leaf is there comes (e ∙ f))
+once-as s told t u e (rests (taken mine leaf is there comes gone f)) = rests (taken mine leaf is there comes gone (e ∙ f))
 once-as s told t u e (serves p made o h f) = serves p made o h (e ∙ f)
 
 plain-once : (s : BrickState) (told : Option Leaf) (t : BrickTurn) → Plain (leafing s) t → ChangeOnce s told t
@@ -92,7 +93,9 @@ voted s from p (Some d) = refl
 took-if : (s : BrickState) (mine leaf : Leaf) (t : BrickTurn) (c : Bool) → own_leaf s.leaves leaf.name ≡ Some mine
     → may_take s.number mine leaf (has_node s.known) (takes.is_free s mine.name) ≡ c
     → t.state.leaves ≡ (if c then record s { leaves = takes.replaced s.leaves mine leaf } else s).leaves → TakeOnce s (Some leaf) t
-took-if s mine leaf t true there e f = taken mine leaf refl there (may-take s mine leaf there e).comes f
+took-if s mine leaf t true there e f =
+    let k = may-take s mine leaf there e in
+    taken mine leaf refl there k.comes (λ no. k.maker) f
 took-if s mine leaf t false there e f = stays f
 
 pub took : (s : BrickState) (leaf : Leaf) (t : BrickTurn) (mine : Option Leaf) → own_leaf s.leaves leaf.name ≡ mine
@@ -123,7 +126,8 @@ installed_over : (s : BrickState) (from : NodeNo) (number : ℕ) (leaf : Leaf) (
 installed_over s from number leaf None there = stays refl
 installed_over s from number leaf (Some mine) there =
     if-keeps (TakeOnce s (Some leaf)) (is_some (successor mine leaf)) _ _
-    (λ e. taken mine leaf refl there (ap (λ c. c || is_better_rival (has_node s.known) mine leaf) e) refl) (λ e. stays refl)
+    (λ e. taken mine leaf refl there (ap (λ c. c || is_better_rival (has_node s.known) mine leaf) e) (λ no. absurd (both_ways _ no e)) refl)
+    (λ e. stays refl)
 
 pub install_row : (s : BrickState) (from : NodeNo) (number : ℕ) (leaf : Leaf) → TakeOnce s (Some leaf) (orders.install_row s from number leaf)
 install_row s from number leaf =
@@ -150,7 +154,7 @@ notice_row s y =
 
     learned : {t : BrickTurn} → ChangeOnce (notices.learns s y) None t → ChangeOnce s None t
     learned (rests (stays e)) = rests (stays e)
-    learned (rests (taken mine leaf is there comes e)) = cc
+    learned (rests (taken mine leaf is there comes gone e)) = cc
     learned (serves p made (was_open o) h e) = serves p made (was_open o) h (e ∙ again p made p.task)
     learned (serves p made (opens at leaf n there l name task phase) h e) =
         serves p made (opens at leaf n there l name task phase) h (e ∙ again p made p.task)
@@ -179,7 +183,7 @@ letter-once s from (letter.CopyAsk number name place) =
 letter-once s from (letter.CopyPart number last pairs) =
     at-order s None number (λ o. order.is_source from o.phase && order.fits o pairs)
     (λ t o. order.copied_on t (record o { copied = o.copied ++ pairs }) from last)
-    (λ p. own.copied_on p (record s { order = None }) (record p { copied = p.copied ++ pairs }) from last (refl, refl, refl, inl refl))
+    (λ p. own.copied_on p (record s { order = None }) (record p { copied = p.copied ++ pairs }) from last (refl, refl, refl, inl refl) refl)
 letter-once s from (letter.Install number leaf) = rests (install_row s from number leaf)
 letter-once s from (letter.Installed number name) =
     at-order s None number (λ o. order.is_installing o.phase) (λ t o. order.installed_in t (record o { waiting = without o.waiting from }) o.phase)

@@ -49,7 +49,7 @@ put-was n at k y t f h = elim (cases_eq k at) [
   | inr ne ↦ as_before (sym (put-other n.node at k y ne) ∙ h)
 ]
 
-no-brick : (q : LibraryState) (t : BrickState) → a_library q ≡ a_brick t → ⊥
+pub no-brick : (q : LibraryState) (t : BrickState) → a_library q ≡ a_brick t → ⊥
 no-brick q t e = cc
 
 pub takes-live : (s : BrickState) (from : ℕ) (l : Letter) → s.stopped ≡ false → (live_brick_turn s from l).state.stopped ≡ false
@@ -75,12 +75,12 @@ node-was z cs n (library_asked at caller call o s) k t f h = put-was n at k _ t 
 node-was z cs n (library_stops at s kept) k t f h = put-was n at k _ t (λ e g. absurd (no-brick _ t g)) h
 
 -- who is known has nothing on its way
-known-empty : {deaf stopped known : Bool} (c : List Letter) → Link deaf c stopped known → known ≡ true → c ≡ []
+pub known-empty : {deaf stopped known : Bool} (c : List Letter) → Link deaf c stopped known → known ≡ true → c ≡ []
 known-empty c (link_lives h) e = cc
 known-empty c (link_told front is h) e = cc
 known-empty c (link_over known is h) e = is
 
-no-part : (number : ℕ) (c : List Letter) → c ≡ [] → has_part number c ≡ true → ⊥
+pub no-part : (number : ℕ) (c : List Letter) → c ≡ [] → has_part number c ≡ true → ⊥
 no-part number c e h = let no : false ≡ true = sym (ap (has_part number) e) ∙ h in cc
 
 module _ (z : Sizes) (cs : List Caller) (n : Net) (e : Event) (f : Fits z cs n e) where
@@ -128,7 +128,7 @@ as-order n j o p _ number same (lives source t here live) = lives source t here 
 as-order n j o p _ number same (copied source ne) = copied source (λ k. ne (same ∙ k))
 as-order n j o p _ number same (comes source t here part) = comes source t here (subst (λ i. has_part i (n.channel source j) ≡ true) number part)
 
-leasing-is : (p : OrderPhase) → order.is_leasing p ≡ true → p ≡ Leasing
+pub leasing-is : (p : OrderPhase) → order.is_leasing p ≡ true → p ≡ Leasing
 leasing-is Leasing h = refl
 leasing-is (Copying source) h = cc
 leasing-is (Installing made) h = cc

@@ -160,7 +160,7 @@ module _ (me : ℕ) (b : Book) (gone : ℕ → Type 0) (told : Option Leaf) (s :
       → t.state.leaves ≡ served s.leaves p made Split → MadeSo p q.leaf made
   made-so p made q (was_open e) (before phase) task leaves = made-before p q.leaf made e task q.fixed phase
   made-so p made q (opens at leaf none there l name split leasing) (before phase) task leaves = absurd (phase-not made (sym leasing ∙ phase))
-  made-so p made q open_order (at_once o leaf u same fixed number count is) task leaves =
+  made-so p made q open_order (at_once o leaf u same was fixed number count alone is) task leaves =
       made-at-once p o leaf made q.leaf u same fixed number count is task q.fixed q.there leaves
 
   pub split : (p : OpenOrder) (made : Leaf) → IsOpen s p → HasMadeLeaf s.number s.made p made → p.task ≡ Split

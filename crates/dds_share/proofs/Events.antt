@@ -46,7 +46,7 @@ put-quiet n at k y t f h = elim (cases_eq k at) [
 no-brick : (q : LibraryState) (t : BrickState) → a_library q ≡ a_brick t → ⊥
 no-brick q t e = cc
 
-stopped-not : (s t : BrickState) → a_brick (emptied s.number) ≡ a_brick t → t.stopped ≡ false → ⊥
+pub stopped-not : (s t : BrickState) → a_brick (emptied s.number) ≡ a_brick t → t.stopped ≡ false → ⊥
 stopped-not s t e live = both_ways t.stopped live (sym (ap (λ (x : BrickState). x.stopped) (same-brick (emptied s.number) t e)))
 
 module _ (z : Sizes) (cs : List Caller) (n : Net) where

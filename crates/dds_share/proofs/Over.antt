@@ -46,7 +46,7 @@ one-over m spot a b d h k =
     some (Some l) = true
 
 -- a key is a spot, as deep as one likes
-in-covers : (n : Name) (key deep : ℕ) → n.depth ≤ deep → covers n key ≡ true → In n (record { bits = key; depth = deep })
+pub in-covers : (n : Name) (key deep : ℕ) → n.depth ≤ deep → covers n key ≡ true → In n (record { bits = key; depth = deep })
 in-covers n key deep le h =
     let m : min deep n.depth ≡ n.depth = omega (arith, le) in
     let self : n.depth ≤ n.depth = omega arith in

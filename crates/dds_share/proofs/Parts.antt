@@ -36,7 +36,7 @@ is_copy other = false
 abbrev pub FromBrick : ℕ → Node → Letter → Type 0
 FromBrick a x l = is_copy l ≡ true → IsBrick x
 
-all-of : {X : Type 0} (P : X → Type 0) (xs : List X) → ((x : X) → P x) → AllByRecursion P xs
+pub all-of : {X : Type 0} (P : X → Type 0) (xs : List X) → ((x : X) → P x) → AllByRecursion P xs
 all-of P [] f = tt
 all-of P (x ∷ xs) f = (f x, all-of P xs f)
 

@@ -71,7 +71,7 @@ module _ (n : Net) (at : ℕ) (b : Book) (gone : ℕ → Type 0) (told : Option 
 
   take-comes : TakeOnce s told t → CameOr gone n at s t
   take-comes (leaves_stay e) = same-leaves e
-  take-comes (takes_leaf mine leaf is there comes e) = λ spot new over. inl (took at b gone told s t turn mine leaf is there comes e spot new over)
+  take-comes (takes_leaf mine leaf is there comes gone_or e) = λ spot new over. inl (took at b gone told s t turn mine leaf is there comes e spot new over)
 
   change-comes : ChangeOnce s told t → ((p : OpenOrder) → s.order ≡ Some p → is_join p.task ≡ true → CameOr gone n at s t) → CameOr gone n at s t
   change-comes (takes_or_rests take) f = take-comes take

@@ -136,7 +136,7 @@ module _ (made : List Made) (me : ℕ) (s : BrickState) (its : IsPlaced me s) wh
       (λ t o. order.copied_on t (record o { copied = o.copied ++ pairs }) from last)
       (λ p it is. (
         own.copied_on (record s { order = None }) p (record p { copied = p.copied ++ pairs }) from last (refl, refl, more p it.2 is),
-        ends.copied_on p (record s { order = None }) (record p { copied = p.copied ++ pairs }) from last (refl, refl, refl, inl refl),
+        ends.copied_on p (record s { order = None }) (record p { copied = p.copied ++ pairs }) from last (refl, refl, refl, inl refl) refl,
       ))
     where
       more : (p : OpenOrder) → AllByRecursion (λ (x : Pair). covers p.name x.key ≡ true) p.copied

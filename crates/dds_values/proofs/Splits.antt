@@ -32,8 +32,7 @@ use Rattle.dds_states.specs.Turn.{BrickTurn}
 use Rattle.dds_states.specs.declared.brick_state.BrickState.{BrickState}
 use Rattle.dds_states.specs.declared.brick_state.OpenOrder.{OpenOrder}
 use Rattle.dds_states.specs.declared.brick_state.OrderPhase.TheVariants.{Installing}
-use Rattle.dds_states.specs.declared.brick_state.Task.{Task}
-use Rattle.dds_states.specs.declared.brick_state.Task.TheVariants.{Join, Split}
+use Rattle.dds_states.specs.declared.brick_state.Task.TheVariants.{Split}
 use Rattle.dds_trie.specs.Trie.{LeafMap, name_at, put}
 use Rattle.dds_values.proofs.Leaves.{IsServed, keeps-none-new, same-keeps, whole-of}
 use Rattle.dds_values.specs.Below.{LeavesKeepHeld}
@@ -110,16 +109,10 @@ of-brick me s p h (opens at leaf none there fixed name task phase) split =
 made-half : (s : BrickState) (p : OpenOrder) (made : Leaf) → IsOfBrick s p → p.task ≡ Split → HasMadeLeaf s.number s.made p made
     → made.name ≡ low_half p.name
 made-half s p made h split (before phase) = h.made made phase
-made-half s p made h split (at_once o leaf u it fixed number count e) =
-    let task : o.task ≡ Split = it.2 ∙ split in
-    let same : o.leaf ≡ p.leaf = elim it.3 [ inl k ↦ k | inr k ↦ absurd (not-join o.task task k) ] in
-    let is : leaf ≡ h.leaf = the-leaf leaf h.leaf (sym fixed ∙ same ∙ h.fixed) in
-    ap (λ (l : Leaf). l.name) (e ∙ ap (made_leaf u o leaf) task) ∙ ap low_half (ap (λ (l : Leaf). l.name) is ∙ h.name)
+made-half s p made h split (at_once o leaf u it was fixed number count alone e) =
+    let is : leaf ≡ h.leaf = the-leaf leaf h.leaf (sym was ∙ h.fixed) in
+    ap (λ (l : Leaf). l.name) (e ∙ ap (made_leaf u o leaf) (it.2 ∙ split)) ∙ ap low_half (ap (λ (l : Leaf). l.name) is ∙ h.name)
   where
-    not-join : (t : Task) → t ≡ Split → is_join t ≡ true → ⊥
-    not-join (Join via) e k = cc
-    not-join Split e k = cc
-
     the-leaf : (x y : Leaf) → Some x ≡ Some y → x ≡ y
     the-leaf x y e = cc
 

@@ -12,6 +12,7 @@ use Rattle.dds_law_own.proofs.Lists.{each-is}
 use Rattle.dds_law_own.proofs.Owned.{IsOrderly, orderly}
 use Rattle.dds_law_own.proofs.Parted.{IsBoth}
 use Rattle.dds_letters.specs.declared.letter.Letter.{Letter}
+use Rattle.dds_net.specs.Net.{Node, nowhere, a_brick, a_library}
 use Rattle.dds_order_rows.specs.OwnOrder as order
 use Rattle.dds_orders.proofs.Counting.{not-none}
 use Rattle.dds_orders.proofs.Deeds.{Deed, Path, Seat, asks_more, closes, copies, drops, fixes, joins, loses, makes, over, pends, says}
@@ -81,6 +82,11 @@ Makes o =
 
 abbrev pub OrderMakes : Option OpenOrder → Type 0
 OrderMakes q = (o : OpenOrder) → q ≡ Some o → Makes o
+
+abbrev pub NodeMakes : ℕ → Node → Type 0
+NodeMakes k nowhere = Unit {0}
+NodeMakes k (a_brick s) = OrderMakes s.order
+NodeMakes k (a_library s) = Unit {0}
 
 -- phases
 leasing-not : (made : Leaf) → Leasing ≡ Installing made → ⊥
