@@ -18,6 +18,7 @@ use Rattle.dds_cluster.specs.declared.trace.Asked.{Asked}
 use Rattle.dds_cluster.specs.declared.trace.Made.{Made}
 use Rattle.dds_cluster.specs.declared.trace.Told.{Told}
 use Rattle.dds_cluster.specs.declared.trace.Trace.{Trace}
+use Rattle.dds_copies.proofs.Runs.{joins-copy}
 use Rattle.dds_core.proofs.Lists.{all-is}
 use Rattle.dds_law_commit.proofs.Calls.{calls-are-kept}
 use Rattle.dds_once.proofs.Runs.{is_of}
@@ -26,7 +27,7 @@ use Rattle.dds_values.proofs.Runs.{held-where-given}
 use Rattle.dds_world.specs.Stands.{AnsweredOnceBy, HasOneEntry, answer_to, is_result, placed_history, stands_in}
 use Rattle.dds_replies.proofs.Along.{Given}
 use Rattle.dds_replies.proofs.Replies.{IsItsReply, reply-there}
-use Rattle.dds_replies.specs.Law.{AllAnsweredOnce, AnsweredOnceWhereGiven, StandsWhereGiven}
+use Rattle.dds_replies.specs.Law.{AllAnsweredOnce, AnsweredOnceWhereGiven, StandsWhereGiven, StandsWhereOrdersTalk}
 
 -- Each answered call has its one entry with the reply that was answered; so a run's calls stand.
 
@@ -99,3 +100,6 @@ runs-stand o journal h run talk joins =
       unanswered_once_or_never = kept.unanswered_once_or_never;
       entries_are_calls = kept.entries_are_calls;
     }
+
+pub stand-where-orders-talk : StandsWhereOrdersTalk
+stand-where-orders-talk o journal h run talk = runs-stand o journal h run talk (joins-copy o journal h run talk).served

@@ -22,3 +22,8 @@ abbrev pub StandsWhereGiven : Type 0
 StandsWhereGiven =
     (o : OpeningOf) (journal : List Step) → IsOpening o → is_run o journal ≡ true → TalkAlong o journal → JoinsServeTheTable o journal
     → Stands (run_of o journal)
+
+-- the second premise follows from the first
+abbrev pub StandsWhereOrdersTalk : Type 0
+StandsWhereOrdersTalk =
+    (o : OpeningOf) (journal : List Step) → IsOpening o → is_run o journal ≡ true → TalkAlong o journal → Stands (run_of o journal)
