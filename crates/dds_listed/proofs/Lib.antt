@@ -19,6 +19,7 @@ pub mod OrderTurns
 pub mod Grounds
 pub mod MadeFine
 pub mod OwnLeaves
+pub mod OrderAnswers
 pub mod TakesGives
 pub mod ToldTrips
 pub mod ToldGives

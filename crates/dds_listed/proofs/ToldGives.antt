@@ -52,7 +52,7 @@ use Rattle.dds_listed.proofs.Made.{made-covers}
 use Rattle.dds_listed.proofs.MadeFine.{GrantedCover, begun-members, few-of, made-name, maker-answers}
 use Rattle.dds_listed.proofs.Makes.{NodeMakes}
 use Rattle.dds_listed.proofs.OwnLeaves.{Changed, change-answer}
-use Rattle.dds_listed.proofs.TakesGives.{letters-answer, order-answers}
+use Rattle.dds_listed.proofs.OrderAnswers.{letters-answer, order-answers}
 use Rattle.dds_listed.proofs.TellsOrders.{told-tells}
 use Rattle.dds_listed.proofs.ToldTrips.{ToldEnds, told-ends}
 use Rattle.dds_listed.specs.Answers.{Answers}
