@@ -38,7 +38,7 @@ WasSo n k nowhere = Unit {0}
 WasSo n k (a_brick t) = t.stopped ≡ false → Before n k t
 WasSo n k (a_library s) = Unit {0}
 
-itself-was : (n : Net) (k : ℕ) (x : Node) → n.node k ≡ x → WasSo n k x
+pub itself-was : (n : Net) (k : ℕ) (x : Node) → n.node k ≡ x → WasSo n k x
 itself-was n k nowhere e = tt
 itself-was n k (a_brick t) e = λ live. record { state = t; here = e; live = live; keeps = λ leaf h. h }
 itself-was n k (a_library s) e = tt
@@ -49,7 +49,7 @@ members-later n m was leaf h new b t here live lists =
     w.keeps leaf (h new b w.state w.here w.live lists)
 
 -- what is so of all leaves of a node
-in-order : (P Q : Leaf → Type 0) (q : Option OpenOrder) → ((leaf : Leaf) → P leaf → Q leaf) → InOrder P q → InOrder Q q
+pub in-order : (P Q : Leaf → Type 0) (q : Option OpenOrder) → ((leaf : Leaf) → P leaf → Q leaf) → InOrder P q → InOrder Q q
 in-order P Q None f h = tt
 in-order P Q (Some o) f h = (each-map P Q o.leaf f h.0, each-map P Q (made_leaf o.phase) f h.1)
 

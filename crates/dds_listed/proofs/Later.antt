@@ -35,7 +35,7 @@ use Rattle.dds_listed.specs.Answers.{Answers, installs, serves}
 
 module _ (s : BrickState) (t : BrickTurn) (grows : Grows s.leaves t.state.leaves) (keyed : Keyed t.state.leaves) (fit : InMap IsFit t.state.leaves) where
   -- what is served covers the keys under its name
-  served-covers : (leaf : Leaf) → t.state.leaves ≡ put s.leaves leaf → Answers t.state leaf
+  pub served-covers : (leaf : Leaf) → t.state.leaves ≡ put s.leaves leaf → Answers t.state leaf
   served-covers leaf is =
       serves (λ key over. cover-of t.state.leaves key keyed fit (record {
         name = leaf.name;

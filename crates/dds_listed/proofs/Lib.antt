@@ -17,5 +17,12 @@ pub mod OrderTrips
 pub mod Makes
 pub mod OrderTurns
 pub mod Grounds
+pub mod MadeFine
+pub mod OwnLeaves
+pub mod OrderAnswers
+pub mod TakesGives
+pub mod ToldTrips
+pub mod ToldGives
+pub mod Owed
 pub mod Worlds
 pub mod Openings

@@ -30,7 +30,7 @@ or-first true b h e = refl
 or-first false b h e = let no : false ≡ true = sym e ∙ h in cc
 
 -- whom it lists beside the brick
-lists-parting : (s : BrickState) (o : OpenOrder) (leaf : Leaf) (t : Task) (n : ℕ) → (n ≡ s.number → ⊥)
+pub lists-parting : (s : BrickState) (o : OpenOrder) (leaf : Leaf) (t : Task) (n : ℕ) → (n ≡ s.number → ⊥)
     → has (order.made_leaf s o leaf t).list n ≡ true → has (order.parting s o leaf) n ≡ true
 lists-parting s o leaf (Join via) n ne h =
     or-first (has (order.parting s o leaf) n) (has (s.number ∷ []) n) (sym (has-append (order.parting s o leaf) (s.number ∷ []) n) ∙ h)
@@ -48,7 +48,7 @@ who-made x o made nodes may n ne h =
     (ap (λ ns. has ns n) may.nodes_are ∙ has-kept (λ k. not (k == x.own.number)) (order.parting s o leaf) n (ap not (ne_eqb n x.own.number ne)) parts)
 
 -- its keys are the order's
-made-covers : (n : Name) (t : Task) (key : ℕ) → n.bits < 2 ^ n.depth → covers (made_name n t) key ≡ true → covers n key ≡ true
+pub made-covers : (n : Name) (t : Task) (key : ℕ) → n.bits < 2 ^ n.depth → covers (made_name n t) key ≡ true → covers n key ≡ true
 made-covers n (Join via) key few h = h
 made-covers n Split key few h = halves-cover n key few ∙ ap (λ c. c || covers (high_half n) key) h
 

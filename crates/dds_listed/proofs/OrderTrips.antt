@@ -1,6 +1,7 @@
 use Rattle.std.proofs.Common.{◌≡◌, ℕ, ◌+◌, ◌==◌, ◌∷◌, inr, Bool, true, false, not, Option, Some, List, [], refl, sym, ap, ◌∙◌, subst}
 use Rattle.std.proofs.lemmas.Bool.{and_parts, both_ways, eq-eqb, ne_eqb}
 use Rattle.std.specs.List.{AllByRecursion}
+use Rattle.std.specs.Prelude.{is_some}
 use Rattle.dds_base.specs.BrickList.{has}
 use Rattle.dds_base.specs.NodeSet.{has_node}
 use Rattle.dds_base.specs.declared.leaf.Leaf.{Leaf}
@@ -11,6 +12,7 @@ use Rattle.dds_groups.specs.Leaves.{live}
 use Rattle.dds_law_leaf.proofs.Book.{Each}
 use Rattle.dds_law_leaf.proofs.Maps.{each-is}
 use Rattle.dds_law_own.proofs.Lists.{has-kept}
+use Rattle.dds_law_own.proofs.Parted.{IsBoth}
 use Rattle.dds_letters.specs.declared.letter.Letter.{Letter}
 use Rattle.dds_letters.specs.declared.letter.Letter.TheVariants as letter
 use Rattle.dds_letters.specs.declared.refusal.Wanted.TheVariants as wanted
@@ -23,6 +25,7 @@ use Rattle.dds_orders.proofs.Deeds.{splits_none, stays, takes, told_order, widen
 use Rattle.dds_orders.proofs.Asked.{or-left}
 use Rattle.dds_orders.proofs.Covered.{false-of}
 use Rattle.dds_orders.proofs.Numbers.{the-order}
+use Rattle.dds_orders.proofs.Standing.{deed-both}
 use Rattle.dds_states.specs.Turn.{is_none_left, to_each, unknown, unknown_others, without}
 use Rattle.dds_states.specs.declared.brick_state.OpenOrder.{OpenOrder}
 use Rattle.dds_states.specs.declared.brick_state.OrderPhase.{OrderPhase}
@@ -131,7 +134,7 @@ other-asks P z (letter.Lease number what) e = cc
 other-asks P z (letter.Install number made) e = cc
 other-asks P z other e = tt
 
-others-ask : (P : Leaf → Type 0) (z : Seat) (ls : List (NodeNo × Letter)) → AreOthers ls → AllAsk P z ls
+pub others-ask : (P : Leaf → Type 0) (z : Seat) (ls : List (NodeNo × Letter)) → AreOthers ls → AllAsk P z ls
 others-ask P z ls h = all-map (λ (p : NodeNo × Letter). is_of_orders p.1 ≡ false) (λ p. AskOk P z p.1) ls (λ p k. other-asks P z p.1 k) h
 
 leaves-ok : (P : Leaf → Type 0) (x : Seat) (a b : Stage) → Leaves x a b → OwedOk P a → OwedOk P b
@@ -180,117 +183,108 @@ module _ (me : ℕ) (P : Leaf → Type 0) (q : Option OpenOrder) where
       each-asks P z (n ∷ ns) (letter.Install o.number made)
       (f e made (subst (λ (u : Seat). IsInstalling u made) (sym is) (made-installing x o made n ns may)))
 
-  deed-ends : (a b : Stage) (x y : Seat) (ls : List (NodeNo × Letter)) (d : Deed x ls y) → Staged a b d → OwedOk P a → x.own.number ≡ me
-      → StandsAs me P q x.own.order → Deeded b y ls × (y.own.number ≡ me)
+  deed-ends : (a b : Stage) (x y : Seat) (ls : List (NodeNo × Letter)) (d : Deed x ls y) → Staged a b d → OwedOk P a → IsBoth me x.own
+      → StandsAs me P q x.own.order → Deeded b y ls
   deed-ends a b x _ ls (says _ others) s o i h =
-      (record { stands = h; owed = leaves-ok P x a b s o; asks = λ z f. others-ask P z ls others }, i)
-  deed-ends a b x y ls (takes mine leaf may) s o i h = (record { stands = h; owed = nothing-ok P b s.1; asks = λ z f. tt }, i)
-  deed-ends a b x y ls (pends p may) s o i h = (record { stands = h; owed = nothing-ok P b s.1; asks = λ z f. tt }, i)
-  deed-ends a b x y ls (drops txn) s o i h = (record { stands = h; owed = nothing-ok P b s.1; asks = λ z f. tt }, i)
+      record { stands = h; owed = leaves-ok P x a b s o; asks = λ z f. others-ask P z ls others }
+  deed-ends a b x y ls (takes mine leaf may) s o i h = record { stands = h; owed = nothing-ok P b s.1; asks = λ z f. tt }
+  deed-ends a b x y ls (pends p may) s o i h = record { stands = h; owed = nothing-ok P b s.1; asks = λ z f. tt }
+  deed-ends a b x y ls (drops txn) s o i h = record { stands = h; owed = nothing-ok P b s.1; asks = λ z f. tt }
   deed-ends a b x y ls (joins name via may) s o i h = absurd (subst (OwedOk P) s.0 o)
   deed-ends a b x y ls (splits leaf may) s o i h = absurd (subst (OwedOk P) s.0 o)
-  deed-ends a b x y ls (loses p n e known) s o i h = (
-    record {
-      stands = that-stands me P q (record p { waiting = without p.waiting n })
-          (let k = h p e in
-          record {
-            first = k.first;
-            was = k.was;
-            stands = record { like = k.stands.like; leaf = k.stands.leaf; phase = k.stands.phase; made = k.stands.made };
-          });
-      owed = nothing-ok P b s.1;
-      asks = λ z f. tt;
-    },
-    i,
-  )
+  deed-ends a b x y ls (loses p n e known) s o i h =
+      record {
+        stands = that-stands me P q (record p { waiting = without p.waiting n })
+            (let k = h p e in
+            record {
+              first = k.first;
+              was = k.was;
+              stands = record { like = k.stands.like; leaf = k.stands.leaf; phase = k.stands.phase; made = k.stands.made; whole = k.stands.whole };
+            });
+        owed = nothing-ok P b s.1;
+        asks = λ z f. tt;
+      }
   deed-ends a b x y ls (fixes p from leaf e may) s o i h =
-      let its : P leaf = subst (OwedOk P) s.0 o in (
-        record {
-          stands = that-stands me P q (widened x p from leaf)
-              (let k = h p e in
-              record {
-                first = k.first;
-                was = k.was;
-                stands = record { like = k.stands.like; leaf = its; phase = k.stands.phase; made = k.stands.made };
-              });
-          owed = nothing-ok P b s.1;
-          asks = λ z f. each-asks P z (unknown_others leaf.list from x.own.known) (letter.Lease p.number (wanted.Leaf leaf)) its;
-        },
-        i,
-      )
-  deed-ends a b x y ls (copies p leaf source e may) s o i h = (
-    record {
-      stands = that-stands me P q (record p { copied = []; phase = Copying source })
-          (let k = h p e in
-          record {
-            first = k.first;
-            was = k.was;
-            stands = record {
-              like = k.stands.like;
-              leaf = k.stands.leaf;
-              phase = λ c. absurd (both_ways (order.is_installing p.phase) may.ready.before (ap order.is_installing (k.stands.phase c) ∙ c));
-              made = λ made c. absurd (copying-not (Copying source) made source c refl);
-            };
-          });
-      owed = nothing-ok P b s.1;
-      asks = λ z f. (tt, tt);
-    },
-    i,
-  )
-  deed-ends a b x _ ls (asks_more p source e phase) s o i h = (record { stands = h; owed = nothing-ok P b s.1; asks = λ z f. (tt, tt) }, i)
+      let its : P leaf = subst (OwedOk P) s.0 o in
+      record {
+        stands = that-stands me P q (widened x p from leaf)
+            (let k = h p e in
+            record {
+              first = k.first;
+              was = k.was;
+              stands = record { like = k.stands.like; leaf = its; phase = k.stands.phase; made = k.stands.made; whole = λ c. refl };
+            });
+        owed = nothing-ok P b s.1;
+        asks = λ z f. each-asks P z (unknown_others leaf.list from x.own.known) (letter.Lease p.number (wanted.Leaf leaf)) its;
+      }
+  deed-ends a b x y ls (copies p leaf source e may) s o i h =
+      record {
+        stands = that-stands me P q (record p { copied = []; phase = Copying source })
+            (let k = h p e in
+            record {
+              first = k.first;
+              was = k.was;
+              stands = record {
+                like = k.stands.like;
+                leaf = k.stands.leaf;
+                phase = λ c. absurd (both_ways (order.is_installing p.phase) may.ready.before (ap order.is_installing (k.stands.phase c) ∙ c));
+                made = λ made c. absurd (copying-not (Copying source) made source c refl);
+                whole = λ c. let no : false ≡ true = c in cc;
+              };
+            });
+        owed = nothing-ok P b s.1;
+        asks = λ z f. (tt, tt);
+      }
+  deed-ends a b x _ ls (asks_more p source e phase) s o i h = record { stands = h; owed = nothing-ok P b s.1; asks = λ z f. (tt, tt) }
   deed-ends a b x y ls (makes p made nodes e may) s o i h =
       let k = h p e in
       let before : order.is_installing k.first.phase ≡ false = false-of (order.is_installing k.first.phase)
-      (λ c. both_ways (order.is_installing p.phase) may.ready.before (ap order.is_installing (k.stands.phase c) ∙ c)) in (
-        record {
-          stands = that-stands me P q (record p { waiting = nodes; phase = Installing made })
-              (record {
-                first = k.first;
-                was = k.was;
-                stands = record {
+      (λ c. both_ways (order.is_installing p.phase) may.ready.before (ap order.is_installing (k.stands.phase c) ∙ c)) in
+      record {
+        stands = that-stands me P q (record p { waiting = nodes; phase = Installing made })
+            (record {
+              first = k.first;
+              was = k.was;
+              stands = record {
+                like = k.stands.like;
+                leaf = k.stands.leaf;
+                phase = λ c. absurd (both_ways (order.is_installing k.first.phase) before c);
+                made = λ other c. inr (subst (Begun me P k.first) (made-is made other c) (record {
+                  at = x;
+                  o = p;
+                  nodes = nodes;
+                  there = e;
+                  may = may;
+                  both = i;
                   like = k.stands.like;
-                  leaf = k.stands.leaf;
-                  phase = λ c. absurd (both_ways (order.is_installing k.first.phase) before c);
-                  made = λ other c. inr (subst (Begun me P k.first) (made-is made other c) (record {
-                    at = x;
-                    o = p;
-                    nodes = nodes;
-                    may = may;
-                    number = i;
-                    like = k.stands.like;
-                    of_leaf = each-is P p.leaf may.may.leaf may.may.fixed k.stands.leaf;
-                    before = before;
-                  }));
-                };
-              });
-          owed = nothing-ok P b s.1;
-          asks = made-asks b x y p made nodes may s.1 refl;
-        },
-        i,
-      )
-  deed-ends a b x y ls (closes p e) s o i h = (
-    record {
-      stands = λ r c. absurd (not-none r c);
-      owed = nothing-ok P b s.next;
-      asks = λ z f. each-asks P z (unknown p.asked x.own.known) (letter.Release p.number p.name) tt;
-    },
-    i,
-  )
-  deed-ends a b x y ls (serves p made e phase) s o i h = (
-    record {
-      stands = λ r c. absurd (not-none r c);
-      owed = nothing-ok P b s.1;
-      asks = λ z f. each-asks P z (unknown p.granted x.own.known) (letter.Release p.number p.name) tt;
-    },
-    i,
-  )
+                  of_leaf = each-is P p.leaf may.may.leaf may.may.fixed k.stands.leaf;
+                  before = before;
+                }));
+                whole = λ c. ap is_some may.may.fixed;
+              };
+            });
+        owed = nothing-ok P b s.1;
+        asks = made-asks b x y p made nodes may s.1 refl;
+      }
+  deed-ends a b x y ls (closes p e) s o i h =
+      record {
+        stands = λ r c. absurd (not-none r c);
+        owed = nothing-ok P b s.next;
+        asks = λ z f. each-asks P z (unknown p.asked x.own.known) (letter.Release p.number p.name) tt;
+      }
+  deed-ends a b x y ls (serves p made e phase) s o i h =
+      record {
+        stands = λ r c. absurd (not-none r c);
+        owed = nothing-ok P b s.1;
+        asks = λ z f. each-asks P z (unknown p.granted x.own.known) (letter.Release p.number p.name) tt;
+      }
 
-  pub trip-ends : {a c : Stage} {x z : Seat} {ls : List (NodeNo × Letter)} → Trip a x ls c z → OwedOk P a → x.own.number ≡ me
+  pub trip-ends : {a c : Stage} {x z : Seat} {ls : List (NodeNo × Letter)} → Trip a x ls c z → OwedOk P a → IsBoth me x.own
       → StandsAs me P q x.own.order → StandsAs me P q z.own.order × AllAsk P z ls
   trip-ends (arrives _ _) o i h = (h, tt)
   trip-ends (does_next a b c x y z ls ms d s w) o i h =
       let k = deed-ends a b x y ls d s o i h in
-      let r = trip-ends w k.0.owed k.1 k.0.stands in (
+      let r = trip-ends w k.owed (deed-both me x y ls d i) k.stands in (
         r.0,
-        all-append (λ (p : NodeNo × Letter). AskOk P z p.1) ls ms (k.0.asks z (λ e made g. trip-installing made w e g)) r.1,
+        all-append (λ (p : NodeNo × Letter). AskOk P z p.1) ls ms (k.asks z (λ e made g. trip-installing made w e g)) r.1,
       )

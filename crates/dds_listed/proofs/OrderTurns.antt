@@ -1,11 +1,12 @@
 use Rattle.std.proofs.Common.{◌≡◌, ℕ, ◌++◌, ◌⊎◌, inl, inr, true, Option, Some, None, List, [], ◌∷◌, refl, sym, ap, ◌∙◌, subst}
 use Rattle.std.proofs.lemmas.Bool.{cases_eq}
+use Rattle.std.specs.Prelude.{is_some}
 use Rattle.dds_base.specs.BrickList.{has}
 use Rattle.dds_base.specs.declared.leaf.Leaf.{Leaf}
 use Rattle.dds_base.specs.declared.number.NodeNo.{NodeNo}
 use Rattle.dds_core.proofs.Lists.{all-append}
 use Rattle.dds_core.specs.Brick.{live_brick_turn}
-use Rattle.dds_law_leaf.proofs.Book.{Each, InLetter, InOrder}
+use Rattle.dds_law_leaf.proofs.Book.{Each, InOrder}
 use Rattle.dds_law_own.proofs.Changes.{own}
 use Rattle.dds_law_own.proofs.LetterWays.{IsOfAnother}
 use Rattle.dds_law_own.proofs.Parted.{IsBoth}
@@ -22,7 +23,7 @@ use Rattle.dds_orders.proofs.Standing.{heard-both}
 use Rattle.dds_states.specs.Turn.{BrickTurn, unknown, without}
 use Rattle.dds_states.specs.declared.brick_state.BrickState.{BrickState}
 use Rattle.dds_states.specs.declared.brick_state.OpenOrder.{OpenOrder}
-use Rattle.dds_listed.proofs.Begun.{StandsAs, first-stands}
+use Rattle.dds_listed.proofs.Begun.{IsWhole, StandsAs, first-stands}
 use Rattle.dds_world.specs.Groups.{made_leaf}
 use Rattle.dds_listed.proofs.Makes.{OrderMakes, path-makes}
 use Rattle.dds_listed.proofs.Made.{or-first}
@@ -106,13 +107,20 @@ heard-leaves P from l q r f h =
     let its : InOrder P (Some k.was) = subst (InOrder P) k.there h in
     (subst (Each P) (sym k.leaf) its.0, subst (λ p. Each P (made_leaf p)) (sym k.phase) its.1))
 
+whole-heard : (from : NodeNo) (l : Letter) (q : Option OpenOrder) (o : OpenOrder) → Heard from l q o → ((p : OpenOrder) → q ≡ Some p → IsWhole p)
+    → IsWhole o
+whole-heard from l q o h f k = ap is_some h.leaf ∙ f h.was h.there (ap order.is_installing (sym h.phase) ∙ k)
+
 -- what is owed, and the letters that answer
-owed-ok : (P : Leaf → Type 0) (from : NodeNo) (x y : Seat) (l : Letter) (ls : List (NodeNo × Letter)) (h : Hears from x l ls y) → InLetter P l
+abbrev pub HeardOk : (Leaf → Type 0) → Option OpenOrder → Letter → Type 0
+HeardOk P q l = (o : OpenOrder) (leaf : Leaf) → q ≡ Some o → l ≡ letter.Granted o.number leaf → P leaf
+
+owed-ok : (P : Leaf → Type 0) (from : NodeNo) (x y : Seat) (l : Letter) (ls : List (NodeNo × Letter)) (h : Hears from x l ls y) → HeardOk P x.own.order l
     → OwedOk P (owed h)
 owed-ok P from x y _ ls (grants number leaf p f) h = at p.leaf
   where
     at : (q : Option Leaf) → OwedOk P (owed_at q from leaf)
-    at None = h
+    at None = h p leaf f.there (ap (λ k. letter.Granted k leaf) (sym f.same))
     at (Some fixed) = tt
 owed-ok P from x y l ls (copies number last pairs p f) h = tt
 owed-ok P from x y l ls other h = tt
@@ -145,17 +153,18 @@ pub record OrderEnds (me : ℕ) (P : Leaf → Type 0) (from : NodeNo) (l : Lette
   pub asks : AllAsk P (seat t.state) t.out.letters
 
 pub letter-ends : (me : ℕ) (P : Leaf → Type 0) (s : BrickState) (from : NodeNo) (l : Letter) → IsOfAnother s from l → IsBoth me (own s)
-    → OrderMakes s.order → InOrder P s.order → InLetter P l → OrderEnds me P from l s (live_brick_turn s from l)
-letter-ends me P s from l other both makes sound told =
+    → OrderMakes s.order → InOrder P s.order → ((o : OpenOrder) → s.order ≡ Some o → IsWhole o) → HeardOk P s.order l → OrderEnds me P from l s (live_brick_turn s from l)
+letter-ends me P s from l other both makes sound whole told =
     let t = live_brick_turn s from l in
     let u = letter-turns s from l other in
     let first = path-makes me (seat s) u.first [] u.takes both makes in
     let next = heard-both me from u.first u.next l u.answers u.hears first.0 in
     let heard = (λ (o : OpenOrder) (e : u.next.own.order ≡ Some o).
     subst (λ q. Heard from l q o) u.first_order (heard-order from l u.first u.next u.answers u.hears o e)) in
+    let hears : HeardOk P u.first.own.order l = subst (λ q. HeardOk P q l) (sym u.first_order) told in
     let leaves = heard-leaves P from l s.order u.next.own.order heard sound in
-    let ends = trip-ends me P u.next.own.order u.trip (owed-ok P from u.first u.next l u.answers u.hears told) next.0.number
-    (first-stands me P u.next.own.order leaves) in
+    let ends = trip-ends me P u.next.own.order u.trip (owed-ok P from u.first u.next l u.answers u.hears hears) next
+    (first-stands me P u.next.own.order leaves (λ o e. whole-heard from l s.order o (heard o e) whole)) in
     record {
       first = u.next.own.order;
       heard = heard;

@@ -32,7 +32,7 @@ lists-some old new n h k = elim (cases_Bool (has old.list n)) [
 ]
 
 -- of a successor with another name
-split-lists : (old new : Leaf) (q : Option Change) → successor old new ≡ q → is_some q ≡ true → (new.name ≡ old.name → ⊥) → (n : ℕ)
+pub split-lists : (old new : Leaf) (q : Option Change) → successor old new ≡ q → is_some q ≡ true → (new.name ≡ old.name → ⊥) → (n : ℕ)
     → has new.list n ≡ true → has old.list n ≡ true
 split-lists old new None e h other n k = cc
 split-lists old new (Some Join) e h other n k = absurd (other (join-name old new e))

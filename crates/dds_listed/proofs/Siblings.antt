@@ -43,7 +43,7 @@ covers-over q w key few deep h k =
 whole-covers : (n : Name) (key : ℕ) → covers n key ≡ true → covers (whole n) key ≡ true
 whole-covers n key h = covers-over n (whole n) key (whole-few n) (omega arith) (over-whole n n (overlaps-self n)) h
 
-other-covers : (n : Name) (key : ℕ) → covers (other_half n) key ≡ true → covers (whole n) key ≡ true
+pub other-covers : (n : Name) (key : ℕ) → covers (other_half n) key ≡ true → covers (whole n) key ≡ true
 other-covers n key h =
     covers-over (other_half n) (whole n) key (whole-few n) (omega arith) (over-other (other_half n) n (overlaps-self (other_half n))) h
 

@@ -1,0 +1,4 @@
+pub mod Along
+pub mod Rows
+pub mod Replies
+pub mod Standing
