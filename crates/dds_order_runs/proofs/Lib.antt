@@ -3,6 +3,7 @@ pub mod Grants
 pub mod Placed
 pub mod Told
 pub mod Events
-pub mod Runs
 pub mod Along
+pub mod Runs
 pub mod Group
+pub mod Members
