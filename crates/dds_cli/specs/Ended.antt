@@ -1,37 +1,26 @@
 -- What `dds step` promises at each of its ends.
 use Rattle.std.specs.Prelude.{ℕ, ◌≡◌, ◌⊎◌, true, String, List, []}
-use Rattle.std.specs.List.{list_all}
 use Rattle.dds_base.specs.Outside.{Added, AddedPart, Rose, TookPast, TookWithin}
 use Rattle.dds_script.specs.Grammar.{Accepts, IsFirstFault}
-use Rattle.dds_script.specs.Opening.{ScriptOf as Script, first_opening}
+use Rattle.dds_script.specs.Opening.{ScriptOf as Script}
 use Rattle.dds_transcript.specs.Text.{report_text}
 use Rattle.dds_cluster.specs.Trace.{is_run, run_of}
 use Rattle.dds_world.specs.Stands.{Stands}
 use Rattle.dds_cluster.specs.declared.step.Step.{Step}
-use Rattle.dds_law_commit.specs.Calls.{AreKept}
 use Rattle.dds_law_commit.specs.Law.{AreCaused}
-use Rattle.dds_walk.specs.Law.{is_plain_line}
 use Rattle.dds_walk.specs.Walk.{steps, transcript}
 use Rattle.dds_ends.specs.End.{IsStepCommand, Outside, IsUnread, IsUnwritten, IsReadWhole}
 use Rattle.dds_ends.specs.declared.end.End.{End}
 use Rattle.dds_ends.specs.declared.end.End.TheVariants.{Finished, Usage, TooLong, ReadFault, Script as ScriptEnd, WriteFault, Memory}
 use Rattle.dds_ends.specs.declared.command.TheConstants.{BYTES, LINES}
 
--- the scripts whose runs are proved to stand in one legal history: those that open with one brick, one library, one caller
--- and one leaf, and of whose lines none is a stop, a join or a split
-pub record IsProvedToStand (script : Script) : Type 0 where
-  pub first : script.opening ≡ first_opening
-  pub plain : list_all is_plain_line script.lines ≡ true
-
--- the journal is the one that the script determines, and a run; each Again, Full and Lost has its cause in it; calls with a result stand
--- in its history once, refused ones never, the others once or never, and nothing but calls does; and where the script is one of those
--- that are proved to stand, that history is one of one map
+-- the journal is the one that the script determines, and a run; each Again, Full and Lost has its cause in it; and its calls stand in one legal
+-- history of one map: those with a result once, refused ones never, the others once or never, and nothing but calls does
 pub record IsRunOf (script : Script) (journal : List Step) : Type 0 where
   pub follows : journal ≡ steps script
   pub run : is_run script.opening journal ≡ true
   pub caused : AreCaused script.opening journal
-  pub kept : AreKept (run_of script.opening journal)
-  pub stands : IsProvedToStand script → Stands (run_of script.opening journal)
+  pub stands : Stands (run_of script.opening journal)
 
 -- the script is what the bytes spell, and the journal is its run
 pub record IsScriptRun (bytes : List ℕ) (script : Script) (journal : List Step) : Type 0 where

@@ -12,11 +12,11 @@ use dds_base::sink::Sink;
 use dds_base::source::{ReadEnd, Source, read_all};
 use dds_ends::command::{BYTES, LINES, is_step, write_transcript};
 use dds_ends::end::End;
-use dds_law_commit::laws::{all_answers_are_caused, calls_are_kept, runs_stand};
+use dds_law_commit::laws::all_answers_are_caused;
+use dds_law_values::laws::all_runs_stand;
 use dds_script::opening::Script;
 use dds_script::read_script::read_script;
 use dds_script::script_error::ScriptError;
-use dds_walk::laws::steps_are_plain;
 use dds_walk::reports::{Walked, walk_script};
 use std::alloc::Global;
 
@@ -71,16 +71,13 @@ fn run_script<K: Sink>(alloc: Global, script: &Script, sink: &mut K) -> Ended
     }
 }
 
-/// Runs a script. The laws say what is so of every run, since each opening keeps what they ask of it, and which scripts' runs stand in
-/// one legal history.
+/// Runs a script. The laws say what is so of every run, since each opening keeps what they ask of it.
 fn run(alloc: Global, script: &Script) -> Result<Walked, Memory>
     ensures ran { IfOk result (λ ran. IsRunOf script.now ran.journal) }
     ensures lines { IfOk result (λ ran. ran.lines.items ≡ transcript script.now ran.journal) }
 {
     let _ranges = script.opening().ranges();
     all_answers_are_caused();
-    calls_are_kept();
-    runs_stand();
-    steps_are_plain();
+    all_runs_stand();
     walk_script(alloc, script)
 }
