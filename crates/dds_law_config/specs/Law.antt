@@ -7,7 +7,7 @@ use Rattle.dds_base.specs.declared.number.NodeNo.{NodeNo}
 use Rattle.dds_base.specs.declared.op.Reply.{Reply}
 use Rattle.dds_base.specs.declared.op.Reply.TheVariants as reply
 use Rattle.dds_calls.specs.Law.{is_of_stop, is_stop}
-use Rattle.dds_cluster.specs.Trace.{answer_to, is_run, run_of}
+use Rattle.dds_cluster.specs.Trace.{is_run, run_of}
 use Rattle.dds_cluster.specs.World.{library_at}
 use Rattle.dds_cluster.specs.declared.step.Step.{Step}
 use Rattle.dds_cluster.specs.declared.trace.Asked.{Asked}
@@ -23,7 +23,7 @@ use Rattle.dds_world.specs.Notices.{NoticeIsLast}
 use Rattle.dds_world.specs.Outcomes.{CommitReachesAll, OneOutcome, OnlyTheLastAttempt}
 use Rattle.dds_world.specs.Places.{IsLive, world_at}
 use Rattle.dds_world.specs.Refusals.{RefusalsWereTrue}
-use Rattle.dds_world.specs.Stands.{Stands}
+use Rattle.dds_world.specs.Stands.{Stands, answer_to}
 use Rattle.dds_world.specs.Treated.{open_as}
 use Rattle.dds_world.specs.Values.{ServersHoldTheHistory}
 
