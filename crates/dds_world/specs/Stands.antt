@@ -114,8 +114,8 @@ IsOfACall (a ∷ rest) m =
     ((m.entry.caller ≡ a.caller) × (m.entry.call ≡ a.call) × (m.entry.op ≡ a.op)) ⊎ IsOfACall rest m
 
 -- all calls answered with a result stand in one legal history of one map, each once, between its Input and its answer;
--- refused calls don't stand there; an unanswered update stands there once or never; and nothing else does. As a whole that is
--- proved of runs of the first opening without stops and orders alone; README.md says which of it is proved of every run.
+-- refused calls don't stand there; an unanswered update stands there once or never; and nothing else does. It is proved of every
+-- run (`dds_law_values`).
 pub record Stands (t : Trace) : Type 0 where
   pub legal : IsLegal (history t)
   pub answered_once : AllByRecursion (AnsweredOnce t.told (placed_history t)) t.asked

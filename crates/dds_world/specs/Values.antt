@@ -1,4 +1,4 @@
--- Bricks hold what the one history left, and a join copies it. Not proved yet.
+-- Bricks hold what the one history left, and a join copies it. The first is proved of every run, the second of bound joins alone.
 use Rattle.std.specs.Prelude.{ℕ, ◌≡◌, ◌⊎◌, ◌&&◌, ◌+◌, Bool, true, false, not, List, [], ◌∷◌, ◌++◌, Option, Some, None, length, map, take, if◌then◌else◌}
 use Rattle.std.specs.FinMap.{get}
 use Rattle.dds_base.specs.Name.{covers}
