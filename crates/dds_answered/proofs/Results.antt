@@ -45,7 +45,7 @@ pub data Result (c : OpenCall) (l : Letter) (r : Reply) : Type 0 where
   got_absent : (txn : Txn) → l ≡ letter.Got txn answer.Absent → reply.Absent ≡ r → Result c l r
   applied : commits_now c.phase ≡ true → HasFlag c l → Result c l r
 
-same-reply : (a r : Reply) → Some a ≡ Some r → a ≡ r
+pub same-reply : (a r : Reply) → Some a ≡ Some r → a ≡ r
 same-reply a r e = cc
 
 no-result : (a r : Reply) → a ≡ r → is_result a ≡ false → is_result r ≡ true → ⊥
@@ -73,7 +73,7 @@ told-none : (d : Desk) (c : OpenCall) (from : NodeNo) (leaf : Option Leaf) (p : 
 told-none d c from leaf (phase.Committing l list waiting was) r k e = cc
 told-none d c from leaf other r k e = cc
 
-reply-if : (P : Type 0) (r : Reply) (b : Bool) (t u : CallTurn) → (t.went.reply ≡ Some r → P) → (u.went.reply ≡ Some r → P)
+pub reply-if : (P : Type 0) (r : Reply) (b : Bool) (t u : CallTurn) → (t.went.reply ≡ Some r → P) → (u.went.reply ≡ Some r → P)
     → (if b then t else u).went.reply ≡ Some r → P
 reply-if P r true t u f g e = f e
 reply-if P r false t u f g e = g e

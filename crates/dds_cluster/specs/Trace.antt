@@ -70,17 +70,6 @@ is_possible t (step.Handle node from) = may_handle t.world node from
 is_possible t (step.Post node) = may_post t.world node
 is_possible t (step.Stop node) = is_live t.world node
 
--- a step is plain: neither a stop nor an order
-abbrev pub is_call : Input → Bool
-is_call (input.Call caller call op) = true
-is_call (input.Order o) = false
-
-abbrev pub is_plain : Step → Bool
-is_plain (step.Input node i) = is_call i
-is_plain (step.Handle node from) = true
-is_plain (step.Post node) = true
-is_plain (step.Stop node) = false
-
 -- the calls that a step makes
 abbrev pub asked_in : ℕ → Input → List Asked
 asked_in at (input.Call caller call op) = record { place = at; caller = caller; call = call; op = op } ∷ []

@@ -1,16 +1,2 @@
-pub mod Lists
-pub mod Scene
-pub mod Leaf
-pub mod Rows
-pub mod Journals
-pub mod Flight
-pub mod Steps
-pub mod Cases
-pub mod Good
-pub mod Moves
-pub mod Answering
-pub mod Runs
-pub mod Standing
-pub mod Dues
 pub mod Causes
 pub mod Calls

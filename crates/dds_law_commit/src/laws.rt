@@ -3,7 +3,6 @@
 ghost use Rattle.dds_law_commit.specs.Calls.{CallsAreKept};
 ghost use Rattle.dds_law_commit.specs.Causes.{AllAreCaused};
 ghost use Rattle.dds_law_commit.specs.Commit.{CommitIsKept};
-ghost use Rattle.dds_law_commit.specs.Law.{AnswersAreCaused, NoneIsAgainOrLost, RunsStand};
 
 /// In each world of each run, with stops, splits and joins: a notice is its node's last letter, a decided commit reaches all live
 /// members, a transaction has one outcome, and of a call's attempts the last alone is applied or pending.
@@ -22,19 +21,4 @@ pub fn calls_are_kept()
 /// says; one answered Full found the partition full; and one answered Lost lost all members that hadn't told that they applied it.
 pub fn all_answers_are_caused()
     ensures { AllAreCaused }
-{}
-
-/// The calls of every run of the opening with one brick, one library and one caller stand in one legal history.
-pub fn runs_stand()
-    ensures { RunsStand }
-{}
-
-/// In each such run a call is answered Full only where the brick took a prepare of the call while the leaf was full.
-pub fn answers_are_caused()
-    ensures { AnswersAreCaused }
-{}
-
-/// In no such run is a call answered Again or Lost.
-pub fn none_is_again_or_lost()
-    ensures { NoneIsAgainOrLost }
 {}

@@ -1,5 +1,4 @@
-//! What is proved of runs, law by law: of every run that two-phase commit is kept; of those of one brick, one library and one
-//! caller that they stand in one legal history.
+//! What two-phase commit and calls are proved to keep in every run.
 #![tactic(auto)]
 
 pub mod laws;

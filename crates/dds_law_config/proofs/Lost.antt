@@ -25,6 +25,7 @@ use Rattle.dds_net.proofs.Nodes.{brick-node, library-node}
 use Rattle.dds_net.proofs.Places.{is-in, node-below}
 use Rattle.dds_net.proofs.Runs.{sized-run}
 use Rattle.dds_net.specs.Net.{Net, a_brick, a_library, net, sizes_of}
+use Rattle.dds_resolve.proofs.Here.{listed-has}
 use Rattle.dds_script.specs.Opening.{IsOpening, OpeningOf}
 use Rattle.dds_states.specs.declared.brick_state.BrickState.{BrickState}
 use Rattle.dds_states.specs.declared.library_state.LibraryState.{LibraryState}
@@ -48,20 +49,6 @@ lives-not o w k s h (inl stopped) =
     both_ways s.stopped h.live (ap (λ (x : BrickState). x.stopped) (some-is s stopped.0 (sym h.there ∙ stopped.1)) ∙ stopped.2)
 lives-not o w k s h (inr stopped) =
     no-library (net (sizes_of o) w) k s stopped.0 (brick-node w k s h.there) (library-node w k stopped.0 stopped.1)
-
--- what is so of all of a list is so of each one in it
-listed-has : (p : ℕ → Bool) (xs : List ℕ) (k : ℕ) → list_all p xs ≡ true → has xs k ≡ true → p k ≡ true
-listed-has p [] k h e = let no : false ≡ true = e in cc
-listed-has p (x ∷ xs) k h e =
-    let both = and_parts (p x) (list_all p xs) h in
-    elim (cases_eq x k) [
-      | inl is ↦ subst (λ n. p n ≡ true) is both.0
-      | inr ne ↦ listed-has p xs k both.1 (rest (x == k) (has xs k) (ne_eqb x k ne) e)
-    ]
-  where
-    rest : (a b : Bool) → a ≡ false → (a || b) ≡ true → b ≡ true
-    rest true b i j = cc
-    rest false b i j = j
 
 -- who is known has stopped, and so has whose notice comes
 known-stopped : (o : OpeningOf) (journal : List Step) → IsOpening o → is_run o journal ≡ true → (a : Asked) (told : Told) (name : Name)
@@ -87,7 +74,9 @@ known-stopped o journal h run a told name c brick lists =
         place = inl c.first;
       }))
       | inr ne ↦ last.known c.node brick (inr (
-        c.before, c.is_before, other-known c.before.known c.stopped brick low ne known,
+        c.before,
+        c.is_before,
+        other-known c.before.known c.stopped brick low ne known,
       ))
     ]
   where

@@ -1,4 +1,3 @@
-pub mod Along
 pub mod Rows
 pub mod Replies
 pub mod Standing

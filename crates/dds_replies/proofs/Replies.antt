@@ -48,7 +48,7 @@ use Rattle.dds_values.proofs.LibraryFlags.{Kept, had, heard}
 use Rattle.dds_values.proofs.Settles.{PointFits}
 use Rattle.dds_values.specs.Values.{CallFlag, HasFlag, LetterFlag, NodeHolds}
 use Rattle.dds_world.specs.Stands.{is_result}
-use Rattle.dds_replies.proofs.Along.{Given, along}
+use Rattle.dds_values.proofs.Runs.{Premises, along}
 use Rattle.dds_replies.proofs.Rows.{update-reply}
 
 -- The point of an answered update: the first one of the attempt that is answered, with the reply that is answered.
@@ -170,7 +170,7 @@ asked-op o front rest journal at s place c i a ranges whole early run here is th
     (q ∙ ap (λ (k : CallNo). k.0) (sym w.call_is)) in
     ap (λ (x : Asked). x.op) same ∙ w.op_is
 
-module _ (o : OpeningOf) (journal : List Step) (given : Given o journal) (i : ℕ) (a : Asked) (there : slice_get (run_of o journal).asked i ≡ Some a)
+module _ (o : OpeningOf) (journal : List Step) (given : Premises o journal) (i : ℕ) (a : Asked) (there : slice_get (run_of o journal).asked i ≡ Some a)
     (update : is_get a.op ≡ false) (t : Told) (g : IsGiven o journal t) (its : IsOf a t) (good : is_result t.reply ≡ true) where
   abbrev front : List Step
   front = take t.place journal

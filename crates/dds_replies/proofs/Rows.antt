@@ -2,6 +2,7 @@ use Rattle.std.proofs.Common.{◌≡◌, Bool, true, false, Option, Some, None, 
 use Rattle.std.proofs.lemmas.Bool.{both_ways}
 use Rattle.std.specs.Prelude.{if◌then◌else◌}
 use Rattle.dds_answered.proofs.Results.{Result, applied, got_absent, got_value, result}
+use Rattle.dds_answered.proofs.Results.{reply-if, same-reply}
 use Rattle.dds_base.specs.Number.{Txn}
 use Rattle.dds_base.specs.Op.{is_get}
 use Rattle.dds_base.specs.declared.leaf.Leaf.{Leaf}
@@ -33,14 +34,6 @@ pub record IsWithFlag (c : OpenCall) (l : Letter) (r : Reply) : Type 0 where
   pub was : Bool
   pub kept : Kept c l was
   pub reply_is : reply_with c.request.op was ≡ r
-
-same-reply : (a r : Reply) → Some a ≡ Some r → a ≡ r
-same-reply a r e = cc
-
-reply-if : (P : Type 0) (r : Reply) (b : Bool) (t u : CallTurn) → (t.went.reply ≡ Some r → P) → (u.went.reply ≡ Some r → P)
-    → (if b then t else u).went.reply ≡ Some r → P
-reply-if P r true t u f g e = f e
-reply-if P r false t u f g e = g e
 
 first-kept : (txn : Txn) (c : OpenCall) (own : Option Bool) (flag : Bool) → kept_flag c.phase ≡ own → Kept c (letter.Applied txn flag) (first_flag own flag)
 first-kept txn c None flag k = heard txn refl

@@ -25,7 +25,7 @@ use Rattle.dds_once.proofs.Runs.{is_of}
 use Rattle.dds_script.specs.Opening.{OpeningOf}
 use Rattle.dds_values.proofs.Runs.{held-where-given}
 use Rattle.dds_world.specs.Stands.{AnsweredOnceBy, HasOneEntry, answer_to, is_result, placed_history, stands_in}
-use Rattle.dds_replies.proofs.Along.{Given}
+use Rattle.dds_values.proofs.Runs.{Premises}
 use Rattle.dds_replies.proofs.Replies.{IsItsReply, reply-there}
 use Rattle.dds_replies.specs.Law.{AllAnsweredOnce, AnsweredOnceWhereGiven, StandsWhereGiven, StandsWhereOrdersTalk}
 
@@ -60,7 +60,7 @@ with-reply : (entries : List Made) (a : Asked) (r : Told) (e : HasItsEntry entri
 with-reply entries a r e reply =
     record { entry = e.entry; only = e.only; reply = reply; after_input = e.after_input; before_answer = e.before_answer }
 
-module _ (o : OpeningOf) (journal : List Step) (given : Given o journal) where
+module _ (o : OpeningOf) (journal : List Step) (given : Premises o journal) where
   abbrev t : Trace
   t = run_of o journal
 

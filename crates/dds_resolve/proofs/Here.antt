@@ -75,7 +75,7 @@ all-has p (x ∷ xs) k h e = pick (x == k) refl (λ j. all-has p xs k h.1 j) e
     pick true i w j = ap p (sym (eqb-true x k i)) ∙ h.0
     pick false i w j = w j
 
-listed-has : (p : ℕ → Bool) (xs : List ℕ) (k : ℕ) → list_all p xs ≡ true → has xs k ≡ true → p k ≡ true
+pub listed-has : (p : ℕ → Bool) (xs : List ℕ) (k : ℕ) → list_all p xs ≡ true → has xs k ≡ true → p k ≡ true
 listed-has p [] k h e = cc
 listed-has p (x ∷ xs) k h e = pick (x == k) refl (λ j. listed-has p xs k (and_parts (p x) (list_all p xs) h).1 j) e
   where

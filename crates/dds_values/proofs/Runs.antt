@@ -7,7 +7,8 @@ use Rattle.dds_answered.proofs.Kept.{backed-kept}
 use Rattle.dds_answered.proofs.Start.{start-backed}
 use Rattle.dds_attempts.proofs.Runs.{stands-kept, start-last}
 use Rattle.dds_books.specs.Books.{Book, booked}
-use Rattle.dds_cluster.specs.Trace.{is_possible, is_run, is_run_from, next, run_of, start, trace_from}
+use Rattle.dds_calls.proofs.Told.{trace-grown}
+use Rattle.dds_cluster.specs.Trace.{is_possible, is_run, is_run_from, next, run_of, start}
 use Rattle.dds_cluster.specs.Turn.{turn}
 use Rattle.dds_cluster.specs.declared.step.Step.{Step}
 use Rattle.dds_cluster.specs.declared.trace.Trace.{Trace}
@@ -51,24 +52,20 @@ below-kept z few some h n e b built f k =
     }
 
 -- what is given of a run
-record IsGiven (o : OpeningOf) (journal : List Step) : Type 0 where
-  opening : IsOpening o
-  run : is_run o journal ≡ true
-  talk : TalkAlong o journal
-  joins : JoinsServeTheTable o journal
+pub record Premises (o : OpeningOf) (journal : List Step) : Type 0 where
+  pub opening : IsOpening o
+  pub run : is_run o journal ≡ true
+  pub talk : TalkAlong o journal
+  pub joins : JoinsServeTheTable o journal
 
 -- after a journal
-record Along (o : OpeningOf) (journal : List Step) : Type 0 where
-  books : Both
-  below : Below (sizes_of o) (history_of (run_of o journal)) (net_of o journal) books
-  held : Held (history_of (run_of o journal)) (net_of o journal) books
-
-trace-grown : (t : Trace) (journal : List Step) (x : Step) → trace_from t (Grown journal x) ≡ next (trace_from t journal) x
-trace-grown t [] x = refl
-trace-grown t (y ∷ journal) x = trace-grown (next t y) journal x
+pub record Along (o : OpeningOf) (journal : List Step) : Type 0 where
+  pub books : Both
+  pub below : Below (sizes_of o) (history_of (run_of o journal)) (net_of o journal) books
+  pub held : Held (history_of (run_of o journal)) (net_of o journal) books
 
 -- a step more
-went-on : (o : OpeningOf) (was more journal : List Step) (x : Step) → IsGiven o journal → was ++ x ∷ more ≡ journal → Along o was
+went-on : (o : OpeningOf) (was more journal : List Step) (x : Step) → Premises o journal → was ++ x ∷ more ≡ journal → Along o was
     → is_possible (run_of o was) x ≡ true → Along o (Grown was x)
 went-on o was more journal x given whole w p =
     let z = sizes_of o in
@@ -100,14 +97,15 @@ went-on o was more journal x given whole w p =
       held = subst (λ i. Held i (net_of o (Grown was x)) c) (sym past) (subst (λ v. Held (goes h m.event) v c) (sym is.after) up);
     }
 
-went-all : (o : OpeningOf) (was more journal : List Step) → IsGiven o journal → was ++ more ≡ journal → Along o was
-    → is_run_from (run_of o was) more ≡ true → Along o journal
-went-all o was [] journal given whole w p = subst (Along o) (sym (append-nil was) ∙ whole) w
-went-all o was (x ∷ more) journal given whole w p =
-    let q = and_parts (is_possible (run_of o was) x) (is_run_from (next (run_of o was) x) more) p in
-    went-all o (Grown was x) more journal given (append_assoc was (x ∷ []) more ∙ whole)
-    (went-on o was more journal x given whole w q.0)
-    (subst (λ (t : Trace). is_run_from t more ≡ true) (sym (trace-grown (start o) was x)) q.1)
+went-to : (o : OpeningOf) (was mid more journal : List Step) → Premises o journal → was ++ (mid ++ more) ≡ journal → Along o was
+    → is_run_from (run_of o was) mid ≡ true → Along o (was ++ mid)
+went-to o was [] more journal given whole w p = subst (Along o) (sym (append-nil was)) w
+went-to o was (x ∷ mid) more journal given whole w p =
+    let q = and_parts (is_possible (run_of o was) x) (is_run_from (next (run_of o was) x) mid) p in
+    subst (Along o) (append_assoc was (x ∷ []) mid)
+    (went-to o (Grown was x) mid more journal given (append_assoc was (x ∷ []) (mid ++ more) ∙ whole)
+    (went-on o was (mid ++ more) journal x given whole w q.0)
+    (subst (λ (t : Trace). is_run_from t mid ≡ true) (sym (trace-grown (start o) was x)) q.1))
 
 -- the opening
 new-holds : (o : OpeningOf) (k : ℕ) (x : Node) → IsNew o k x → NodeHolds [] x
@@ -137,10 +135,14 @@ start-along o h =
       };
     }
 
+-- at each beginning
+pub along : (o : OpeningOf) (front rest journal : List Step) → Premises o journal → front ++ rest ≡ journal → is_run o front ≡ true → Along o front
+along o front rest journal given whole run = went-to o [] front rest journal given whole (start-along o given.opening) run
+
 pub held-where-given : HeldWhereGiven
 held-where-given o journal h run talk joins =
-    let given : IsGiven o journal = record { opening = h; run = run; talk = talk; joins = joins } in
-    let w = went-all o [] journal journal given refl (start-along o h) run in
+    let given : Premises o journal = record { opening = h; run = run; talk = talk; joins = joins } in
+    let w = along o journal [] journal given (append-nil journal) run in
     record {
       legal = w.held.is.legal;
       history_is = legal-history (run_of o journal) w.held.is.legal;

@@ -12,4 +12,3 @@ pub mod Entries
 pub mod Rank
 pub mod Changed
 pub mod Kept
-pub mod Plain

@@ -1,4 +1,3 @@
 pub mod Picking
 pub mod Walk
 pub mod Agenda
-pub mod Law

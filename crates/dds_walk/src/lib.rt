@@ -1,7 +1,6 @@
 //! The walk of a script: the journal that it determines, and its transcript over a journal.
 #![tactic(auto)]
 
-pub mod laws;
 pub mod lines;
 pub mod moving;
 pub mod picking;
