@@ -1,0 +1,4 @@
+pub mod Seen
+pub mod Client
+pub mod Printed
+pub mod Law
