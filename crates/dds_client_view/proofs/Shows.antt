@@ -142,7 +142,7 @@ no-line-of : (caller : ℕ) (l : Line) → IsAside l → is_line_of caller l ≡
 no-line-of caller (line.Call c op) h = absurd h
 no-line-of caller other h = refl
 
-shows-aside : (before : List SeenLine) (w v : Walk) (s : SeenLine) (g : Prints [] w v) → s.printed ≡ g.more → IsAside s.line → Shows before w
+pub shows-aside : (before : List SeenLine) (w v : Walk) (s : SeenLine) (g : Prints [] w v) → s.printed ≡ g.more → IsAside s.line → Shows before w
     → Shows (before ++ s ∷ []) v
 shows-aside before w v s g e aside h =
     let calls : calls_in (before ++ s ∷ []) ≡ calls_in before =
@@ -252,7 +252,7 @@ below-push before s caller op busy e h =
     all-append (IsNumbered (before ++ s ∷ [])) (calls_in before) (seen_call before s.printed caller op busy ∷ []) (numbered-more before s (calls_in before) h)
     (omega (arith, one), tt)
 
-shows-busy : (before : List SeenLine) (w v : Walk) (s : SeenLine) (caller : CallerNo) (call : CallNo) (op : Op) → s.line ≡ line.Call caller op
+pub shows-busy : (before : List SeenLine) (w v : Walk) (s : SeenLine) (caller : CallerNo) (call : CallNo) (op : Op) → s.line ≡ line.Call caller op
     → s.printed ≡ report.Busy caller call ∷ [] → v ≡ says (counted w caller) (report.Busy caller call) → caller < length w.counts → Shows before w
     → Shows (before ++ s ∷ []) v
 shows-busy before w v s caller call op is e v_is there h =
@@ -288,7 +288,7 @@ unmade-push before asked a (c ∷ cs) e n h = (
   unmade-push before asked a cs e n.1 h.1,
 )
 
-shows-made : (before : List SeenLine) (w v : Walk) (s : SeenLine) (caller : CallerNo) (call : CallNo) (op : Op) (a : Asked) (g : Prints (a ∷ []) (counted w caller) v)
+pub shows-made : (before : List SeenLine) (w v : Walk) (s : SeenLine) (caller : CallerNo) (call : CallNo) (op : Op) (a : Asked) (g : Prints (a ∷ []) (counted w caller) v)
     → s.line ≡ line.Call caller op → s.printed ≡ g.more → a ≡ record { place = w.trace.steps; caller = caller; call = call; op = op }
     → call.0 ≡ lines_of caller before → caller < length w.counts → Shows before w → Shows (before ++ s ∷ []) v
 shows-made before w v s caller call op a g is e a_is number there h =

@@ -1,3 +1,4 @@
+use Rattle.dds_client_view.proofs.Lines.{shows-lines}
 use Rattle.dds_client_view.proofs.Shows.{Shows}
 use Rattle.dds_client_view.proofs.Prints.{prints-line}
 use Rattle.dds_client_view.proofs.Order.{run-in-order}
