@@ -27,6 +27,7 @@ use Rattle.dds_cluster.specs.declared.trace.Caller.{Caller}
 use Rattle.dds_cluster.specs.declared.trace.Told.{Told}
 use Rattle.dds_cluster.specs.declared.trace.Trace.{Trace}
 use Rattle.dds_core.proofs.Lists.{all-append, all-both, all-map}
+use Rattle.dds_net.proofs.Pairwise.{Pairwise, pairs-append}
 use Rattle.dds_script.specs.Opening.{OpeningOf, ranges_of}
 use Rattle.dds_script.specs.Ranges.{IsInRanges}
 use Rattle.dds_script.specs.declared.line.Line.{Line}
@@ -54,10 +55,14 @@ IsNumbered before c = c.call.0 < lines_of c.caller before
 abbrev pub IsOld : List SeenLine → Asked → Type 0
 IsOld before a = a.call.0 < lines_of a.caller before
 
+-- two calls have different callers or numbers
+abbrev pub IsOther : Asked → Asked → Type 0
+IsOther a b = a.caller ≡ b.caller → a.call.0 ≡ b.call.0 → ⊥
+
 -- Lines that a walk has behind it, with what they printed, and the run that they made:
 -- | part | why |
 -- | printed, answers, places | what was printed are the answers that were given, all at earlier places |
--- | counts, below, old | a call's number is how many call lines its caller had, and each call so far has a smaller one |
+-- | counts, below, old, apart | a call's number is how many call lines its caller had, and each call so far has a smaller one, none another's |
 -- | plain | none of the last lines of a transcript is printed yet |
 -- | made, busy | the calls of the run are those of the lines whose callers weren't busy, each with what was printed before it |
 pub record Shows (before : List SeenLine) (w : Walk) : Type 0 where
@@ -67,6 +72,7 @@ pub record Shows (before : List SeenLine) (w : Walk) : Type 0 where
   pub counts : (caller : ℕ) → caller < length w.counts → slice_index_or w.counts caller 0 ≡ lines_of caller before
   pub below : AllByRecursion (IsNumbered before) (calls_in before)
   pub old : AllByRecursion (IsOld before) w.trace.asked
+  pub apart : Pairwise IsOther w.trace.asked
   pub plain : body w.lines ≡ w.lines
   pub made : AreMade w.trace.told (made_calls (calls_in before)) w.trace.asked
   pub busy : AllByRecursion (IsUnmade w.trace.asked) (calls_in before)
@@ -159,6 +165,7 @@ shows-aside before w v s g e aside h =
           ∙ sym (lines-same caller before s (no-line-of caller s.line aside));
       below = subst (λ (l : List SeenCall). AllByRecursion (IsNumbered (before ++ s ∷ [])) l) (sym calls) (numbered-more before s (calls_in before) h.below);
       old = subst (λ (l : List Asked). AllByRecursion (IsOld (before ++ s ∷ [])) l) (sym asked) (old-more before s w.trace.asked h.old);
+      apart = subst (Pairwise IsOther) (sym asked) h.apart;
       plain = ap body g.lines ∙ plain-more w.lines g.more h.plain g.plain ∙ sym g.lines;
       made = subst (λ (l : List SeenCall). AreMade v.trace.told (made_calls l) v.trace.asked) (sym calls)
           (subst (λ (l : List Asked). AreMade v.trace.told (made_calls (calls_in before)) l) (sym asked)
@@ -271,6 +278,7 @@ shows-busy before w v s caller call op is e v_is there h =
       counts = counts-more before w caller s op is h there;
       below = subst (λ (l : List SeenCall). AllByRecursion (IsNumbered (before ++ s ∷ [])) l) (sym calls) (below-push before s caller op true is h.below);
       old = old-more before s w.trace.asked h.old;
+      apart = h.apart;
       plain = plain-more w.lines (report.Busy caller call ∷ []) h.plain refl;
       made = subst (λ (l : List SeenCall). AreMade w.trace.told l w.trace.asked) (sym made) h.made;
       busy = subst (λ (l : List SeenCall). AllByRecursion (IsUnmade w.trace.asked) l) (sym calls)
@@ -287,6 +295,11 @@ unmade-push before asked a (c ∷ cs) e n h = (
   (λ b. asked-push asked a c.caller c.call (h.0 b) (new-call a.caller c.caller a.call.0 c.call.0 before e n.0)),
   unmade-push before asked a cs e n.1 h.1,
 )
+
+apart-push : (before : List SeenLine) (asked : List Asked) (a : Asked) → a.call.0 ≡ lines_of a.caller before → AllByRecursion (IsOld before) asked
+    → AllByRecursion (λ b. AllByRecursion (IsOther b) (a ∷ [])) asked
+apart-push before [] a e h = tt
+apart-push before (b ∷ asked) a e h = (((λ same number. omega (arith, h.0, e, number, ap (λ n. lines_of n before) same)), tt), apart-push before asked a e h.1)
 
 pub shows-made : (before : List SeenLine) (w v : Walk) (s : SeenLine) (caller : CallerNo) (call : CallNo) (op : Op) (a : Asked) (g : Prints (a ∷ []) (counted w caller) v)
     → s.line ≡ line.Call caller op → s.printed ≡ g.more → a ≡ record { place = w.trace.steps; caller = caller; call = call; op = op }
@@ -326,6 +339,7 @@ shows-made before w v s caller call op a g is e a_is number there h =
       old = subst (λ (l : List Asked). AllByRecursion (IsOld (before ++ s ∷ [])) l) (sym g.asked)
           (all-append (IsOld (before ++ s ∷ [])) w.trace.asked (a ∷ []) (old-more before s w.trace.asked h.old)
           (omega (arith, a_number, one, ap (λ n. lines_of n before) a_caller, ap (λ n. lines_of n (before ++ s ∷ [])) a_caller), tt));
+      apart = subst (Pairwise IsOther) (sym g.asked) (pairs-append IsOther w.trace.asked (a ∷ []) h.apart (tt, tt) (apart-push before w.trace.asked a a_number h.old));
       plain = ap body g.lines ∙ plain-more w.lines g.more h.plain g.plain ∙ sym g.lines;
       made = subst (λ (l : List SeenCall). AreMade v.trace.told l v.trace.asked) (sym made)
           (subst (λ (l : List Asked). AreMade v.trace.told (made_calls (calls_in before) ++ c ∷ []) l) (sym g.asked)

@@ -1,3 +1,5 @@
+use Rattle.dds_client_view.proofs.Client.{client-sees}
+use Rattle.dds_client_view.proofs.Sees.{have-ops}
 use Rattle.dds_client_view.proofs.Lines.{shows-lines}
 use Rattle.dds_client_view.proofs.Shows.{Shows}
 use Rattle.dds_client_view.proofs.Prints.{prints-line}

@@ -1,0 +1,255 @@
+-- A run that stands, seen by its clients.
+use Rattle.std.proofs.Common.{◌≡◌, ℕ, ◌+◌, ◌<◌, ◌≤◌, ◌⊎◌, inl, inr, Bool, true, false, List, [], ◌∷◌, ◌++◌, Option, Some, None, refl}
+use Rattle.std.proofs.Common.{sym, ap, subst, ◌∙◌, arith, length}
+use Rattle.std.specs.Prelude.{filter, map, not, ◌&&◌, ◌||◌, ◌==◌, if◌then◌else◌}
+use Rattle.std.specs.List.{AllByRecursion}
+use Rattle.dds_base.specs.Op.{is_get}
+use Rattle.dds_base.specs.declared.number.CallNo.{CallNo}
+use Rattle.dds_client_view.proofs.Calls.{AreMade, IsBefore, IsCallOf, made-all, told_answer}
+use Rattle.dds_client_view.proofs.Order.{IsInOrder, NoLater}
+use Rattle.dds_client_view.proofs.Sees.{HasOp, Keeps, all-mapped, answer-first, answer-has, answer-is, entry_in, has-at-most-one, has-none, has-one, have-ops, reply_of}
+use Rattle.dds_client_view.proofs.Sees.{result-same}
+use Rattle.dds_client_view.proofs.Shows.{IsOther, IsUnmade, Shows, made_calls}
+use Rattle.dds_client_view.specs.Client as client
+use Rattle.dds_client_view.specs.Client.{ClientSees, HasAtMostOne, HasAtMostOneBy, HasNone, HasNoneBy, HasOne, HasOneBy, IsOrdered, IsOrderedBy, StandsFirst, fate_by}
+use Rattle.dds_client_view.specs.Client.{is_entry_of}
+use Rattle.dds_client_view.specs.Seen.{SeenCall, SeenLine, answer_in, answers_in, calls_in, printed_by}
+use Rattle.dds_cluster.specs.Lists.{is_asked, is_call_of}
+use Rattle.dds_cluster.specs.declared.trace.Asked.{Asked}
+use Rattle.dds_cluster.specs.declared.trace.Made.{Made}
+use Rattle.dds_cluster.specs.declared.trace.Told.{Told}
+use Rattle.dds_cluster.specs.declared.trace.Trace.{Trace}
+use Rattle.dds_core.proofs.Lists.{all-both, all-filter, all-map}
+use Rattle.dds_history.specs.declared.entry.Entry.{Entry}
+use Rattle.dds_net.proofs.Pairwise.{Pairwise, pairs-filter}
+use Rattle.dds_walk.specs.declared.walk.Walk.{Walk}
+use Rattle.dds_world.specs.Stands.{AnsweredOnce, AnsweredOnceBy, AtMostOneAfter, IsOfACall, RefusedNever, RefusedNeverBy, Stands, UnansweredOnceOrNever}
+use Rattle.dds_world.specs.Stands.{UnansweredOnceOrNeverBy, answer_to, entries_of, is_result, placed_history, stands_in}
+
+-- all entries of a call stand behind its Input
+abbrev IsBehind : List Made → Asked → Type 0
+IsBehind ms a = AllByRecursion (λ m. a.place < m.place) (entries_of ms a)
+
+behind-most : (at : ℕ) (ms : List Made) → AtMostOneAfter at ms → AllByRecursion (λ m. at < m.place) ms
+behind-most at [] h = tt
+behind-most at (m ∷ []) h = (h, tt)
+behind-most at (m ∷ n ∷ ms) h = absurd h
+
+is-behind : (ms : List Made) (a : Asked) (t : Option Told) → AnsweredOnceBy ms a t → RefusedNeverBy ms a t → UnansweredOnceOrNeverBy ms a t → IsBehind ms a
+is-behind ms a None h k l =
+    elim (is_get a.op) as (λ b. is_get a.op ≡ b → IsBehind ms a) [
+      | true ↦ λ e. subst (AllByRecursion (λ m. a.place < m.place)) (sym (k e)) tt
+      | false ↦ λ e. behind-most a.place (entries_of ms a) (l e)
+    ] refl
+is-behind ms a (Some r) h k l =
+    elim (is_result r.reply) as (λ b. is_result r.reply ≡ b → IsBehind ms a) [
+      | true ↦ λ e. let one = h e in subst (AllByRecursion (λ m. a.place < m.place)) (sym one.only) (one.after_input, tt)
+      | false ↦ λ e. behind-most a.place (entries_of ms a) (l e)
+    ] refl
+
+-- points of the first call stand before a place, those of the second behind it
+none-behind : (p : Made → Bool) (at from : ℕ) (ms : List Made) → from < at → AllByRecursion (λ m. at ≤ m.place) ms
+    → AllByRecursion (λ m. m.place < from) (filter p ms) → filter p ms ≡ []
+none-behind p at from [] less late h = refl
+none-behind p at from (m ∷ ms) less late h =
+    elim (p m) as (λ b. AllByRecursion (λ (x : Made). x.place < from) (if b then m ∷ filter p ms else filter p ms) → (if b then m ∷ filter p ms else filter p ms) ≡ []) [
+      | true ↦ λ k. absurd (omega (arith, less, late.0, k.0))
+      | false ↦ λ k. none-behind p at from ms less late.1 k
+    ] h
+
+rest-of : (P : Made → Type 0) (p : Made → Bool) (m : Made) (ms : List Made) → AllByRecursion P (filter p (m ∷ ms)) → AllByRecursion P (filter p ms)
+rest-of P p m ms h =
+    elim (p m) as (λ b. AllByRecursion P (if b then m ∷ filter p ms else filter p ms) → AllByRecursion P (filter p ms)) [
+      | true ↦ λ k. k.1
+      | false ↦ λ k. k
+    ] h
+
+first-of : (P : Made → Type 0) (p : Made → Bool) (m : Made) (ms : List Made) → p m ≡ true → AllByRecursion P (filter p (m ∷ ms)) → P m
+first-of P p m ms e h = (subst (λ b. AllByRecursion P (if b then m ∷ filter p ms else filter p ms)) e h).0
+
+-- the test of an entry by its call
+abbrev is_of : SeenCall → Made → Bool
+is_of c m = is_entry_of c m.entry
+
+filter-in : (c : SeenCall) (ms : List Made) → client.entries_of (map entry_in ms) c ≡ map entry_in (filter (is_of c) ms)
+filter-in c [] = refl
+filter-in c (m ∷ ms) =
+    elim (is_of c m) as (λ b. (if b then m.entry ∷ client.entries_of (map entry_in ms) c else client.entries_of (map entry_in ms) c) ≡ map entry_in (if b then m ∷ filter (is_of c) ms else filter (is_of c) ms)) [
+      | true ↦ ap (λ (l : List Entry). m.entry ∷ l) (filter-in c ms)
+      | false ↦ filter-in c ms
+    ]
+
+stands-first : (at : ℕ) (c d : SeenCall) (ms : List Made) → Pairwise NoLater ms → AllByRecursion (λ m. m.place < at) (filter (is_of c) ms)
+    → AllByRecursion (λ m. at < m.place) (filter (is_of d) ms) → StandsFirst c d (map entry_in ms)
+stands-first at c d [] order h k = tt
+stands-first at c d (m ∷ ms) order h k = (
+  (λ is.
+    let late = first-of (λ x. at < x.place) (is_of d) m ms is k in
+    filter-in c ms
+    ∙ ap (map entry_in) (none-behind (is_of c) m.place at ms late order.0 (rest-of (λ x. x.place < at) (is_of c) m ms h))),
+  stands-first at c d ms order.1 (rest-of (λ x. x.place < at) (is_of c) m ms h) (rest-of (λ x. at < x.place) (is_of d) m ms k),
+)
+
+-- the points of a call, by the call of the lines
+own-points : (P : Made → Type 0) (ms : List Made) (c : SeenCall) (a : Asked) → a.caller ≡ c.caller → a.call ≡ c.call → AllByRecursion P (entries_of ms a)
+    → AllByRecursion P (filter (is_of c) ms)
+own-points P ms c a e f h =
+    subst (λ (n : CallNo). AllByRecursion P (filter (λ (m : Made). m.entry.caller == c.caller && m.entry.call.0 == n.0) ms)) f
+    (subst (λ (n : ℕ). AllByRecursion P (filter (λ (m : Made). m.entry.caller == n && m.entry.call.0 == a.call.0) ms)) e h)
+
+-- where a call has no entries, its entries come first, and others come before them
+none-first : (c d : SeenCall) (entries : List Entry) → client.entries_of entries c ≡ [] → StandsFirst c d entries
+none-first c d [] h = tt
+none-first c d (e ∷ entries) h =
+    let rest : client.entries_of entries c ≡ [] =
+    elim (is_entry_of c e) as (λ b. (if b then e ∷ client.entries_of entries c else client.entries_of entries c) ≡ [] → client.entries_of entries c ≡ []) [
+      | true ↦ λ k. absurd (cc)
+      | false ↦ λ k. k
+    ] h in
+    ((λ is. rest), none-first c d entries rest)
+
+none-last : (c d : SeenCall) (entries : List Entry) → client.entries_of entries d ≡ [] → StandsFirst c d entries
+none-last c d [] h = tt
+none-last c d (e ∷ entries) h =
+    elim (is_entry_of d e)
+    as (λ b. (if b then e ∷ client.entries_of entries d else client.entries_of entries d) ≡ [] → (b ≡ true → client.entries_of entries c ≡ []) × StandsFirst c d entries) [
+      | true ↦ λ k. absurd (cc)
+      | false ↦ λ k. ((λ is. absurd (cc)), none-last c d entries k)
+    ] h
+
+ordered-where : (c d : SeenCall) (entries : List Entry) (o : _) → StandsFirst c d entries → IsOrderedBy c d entries o
+ordered-where c d entries None h = tt
+ordered-where c d entries (Some reply) h = λ result. h
+
+-- two calls of the run
+ordered-by : (told first later : List Told) (ms : List Made) (c d : SeenCall) (a b : Asked) (o : Option Told) → told ≡ first ++ later
+    → AllByRecursion (IsBefore b.place) first → a.caller ≡ c.caller → a.call ≡ c.call → b.caller ≡ d.caller → b.call ≡ d.call → Pairwise NoLater ms
+    → AnsweredOnce told ms a → IsBehind ms b → answer_to first a.caller a.call ≡ o → IsOrderedBy c d (map entry_in ms) (reply_of o)
+ordered-by told first later ms c d a b None e places f g p q order h behind is = tt
+ordered-by told first later ms c d a b (Some r) e places f g p q order h behind is = λ result.
+    let here : answer_to told a.caller a.call ≡ Some r =
+    ap (λ (l : List Told). answer_to l a.caller a.call) e ∙ answer-first first later a.caller a.call r is in
+    let before : r.place < b.place = answer-has (IsBefore b.place) first a.caller a.call r places is in
+    let one = subst (AnsweredOnceBy ms a) here h (sym (result-same r.reply) ∙ result) in
+    let early : AllByRecursion (λ m. m.place < b.place) (entries_of ms a) =
+    subst (AllByRecursion (λ m. m.place < b.place)) (sym one.only) (omega (arith, one.before_answer, before), tt) in
+    stands-first b.place c d ms order (own-points (λ m. m.place < b.place) ms c a f g early) (own-points (λ m. b.place < m.place) ms d b p q behind)
+
+ordered-two : (told : List Told) (ms : List Made) (c d : SeenCall) (a b : Asked) → IsCallOf told c a → IsCallOf told d b → Pairwise NoLater ms
+    → AnsweredOnce told ms a → IsBehind ms b → IsOrdered (map entry_in ms) c d
+ordered-two told ms c d a b x y order h behind =
+    subst (IsOrderedBy c d (map entry_in ms)) (sym (answer-is d.before y.first c a y.printed x.caller x.call))
+    (ordered-by told y.first y.later ms c d a b (answer_to y.first a.caller a.call) y.whole y.places x.caller x.call y.caller y.call order h behind refl)
+
+-- an entry isn't of a call that was never made
+or-left : (a b : Bool) → (a || b) ≡ false → a ≡ false
+or-left true b e = absurd (cc)
+or-left false b e = refl
+
+or-right : (a b : Bool) → (a || b) ≡ false → b ≡ false
+or-right true b e = absurd (cc)
+or-right false b e = e
+
+not-of : (c : SeenCall) (asked : List Asked) (m : Made) → is_asked asked c.caller c.call ≡ false → IsOfACall asked m → is_of c m ≡ false
+not-of c [] m e h = absurd h
+not-of c (a ∷ asked) m e (inl h) =
+    ap (λ n. n == c.caller && m.entry.call.0 == c.call.0) h.0
+    ∙ ap (λ (n : CallNo). a.caller == c.caller && n.0 == c.call.0) h.1
+    ∙ or-left (is_call_of c.caller c.call a) (is_asked asked c.caller c.call) e
+not-of c (a ∷ asked) m e (inr h) = not-of c asked m (or-right (is_call_of c.caller c.call a) (is_asked asked c.caller c.call) e) h
+
+none-of : (c : SeenCall) (asked : List Asked) (ms : List Made) → is_asked asked c.caller c.call ≡ false → AllByRecursion (IsOfACall asked) ms
+    → client.entries_of (map entry_in ms) c ≡ []
+none-of c asked [] e h = refl
+none-of c asked (m ∷ ms) e h =
+    ap (λ (b : Bool). if b then m.entry ∷ client.entries_of (map entry_in ms) c else client.entries_of (map entry_in ms) c) (not-of c asked m e h.0)
+    ∙ none-of c asked ms e h.1
+
+-- each entry is of a call of the lines
+of-first : (told : List Told) (c : SeenCall) (calls made : List SeenCall) (asked : List Asked) (m : Made) → AreMade told (c ∷ made) asked → IsOfACall asked m
+    → ((rest : List Asked) → AreMade told made rest → IsOfACall rest m → client.IsOfACall calls m.entry) → client.IsOfACall (c ∷ calls) m.entry
+of-first told c calls made [] m h k f = absurd h
+of-first told c calls made (a ∷ asked) m h (inl k) f = inl (k.0 ∙ h.0.caller, k.1 ∙ h.0.call, k.2 ∙ h.0.op)
+of-first told c calls made (a ∷ asked) m h (inr k) f = inr (f asked h.1 k)
+
+of-made : (told : List Told) (calls : List SeenCall) (asked : List Asked) (m : Made) → AreMade told (made_calls calls) asked → IsOfACall asked m
+    → client.IsOfACall calls m.entry
+of-made told [] [] m h k = absurd k
+of-made told [] (a ∷ asked) m h k = absurd h
+of-made told (c ∷ calls) asked m h k =
+    elim (c.busy) as (λ b. AreMade told (if not b then c ∷ made_calls calls else made_calls calls) asked → client.IsOfACall (c ∷ calls) m.entry) [
+      | true ↦ λ g. inr (of-made told calls asked m g k)
+      | false ↦ λ g. of-first told c calls (made_calls calls) asked m g k (λ rest more i. of-made told calls rest m more i)
+    ] h
+
+all-of : {A : Type 0} (P : A → Type 0) (xs : List A) → ((x : A) → P x) → AllByRecursion P xs
+all-of P [] h = tt
+all-of P (x ∷ xs) h = (h x, all-of P xs h)
+
+-- what is so of calls that were made, and of others, is so of all
+all-parts : (P : SeenCall → Type 0) (cs : List SeenCall) → AllByRecursion (λ c. c.busy ≡ true → P c) cs → AllByRecursion (λ c. (c.busy ≡ false) → P c) (made_calls cs)
+    → AllByRecursion P cs
+all-parts P [] h k = tt
+all-parts P (c ∷ cs) h k =
+    elim (c.busy) as (λ b. c.busy ≡ b → AllByRecursion (λ (x : SeenCall). (x.busy ≡ false) → P x) (if not b then c ∷ made_calls cs else made_calls cs) → AllByRecursion P (c ∷ cs)) [
+      | true ↦ λ e g. (h.0 e, all-parts P cs h.1 g)
+      | false ↦ λ e g. (g.0 e, all-parts P cs h.1 g.1)
+    ] refl k
+
+-- a run that stands, and the lines that made it
+pub client-sees : (seen : List SeenLine) (w : Walk) → Shows seen w → IsInOrder w.trace → Stands w.trace → ClientSees seen
+client-sees seen w h order stands =
+    let t = w.trace in
+    let ms = placed_history t in
+    let entries = map entry_in ms in
+    let calls = calls_in seen in
+    let in_order : Pairwise NoLater ms = pairs-filter NoLater (stands_in t.told) t.made order.order in
+    let all = stands.entries_are_calls in
+    let printed : answers_in (printed_by seen) ≡ map told_answer t.told = ap answers_in h.printed ∙ h.answers in
+    let keeps : AllByRecursion (Keeps t.told ms t.asked) t.asked =
+    all-map (λ a. ((AnsweredOnce t.told ms a × RefusedNever t.told ms a) × UnansweredOnceOrNever t.told ms a) × HasOp t.asked a) (Keeps t.told ms t.asked) t.asked
+    (λ a k. record { answered = k.0.0.0; refused = k.0.0.1; unanswered = k.0.1; op = k.1 })
+    (all-both (λ a. (AnsweredOnce t.told ms a × RefusedNever t.told ms a) × UnansweredOnceOrNever t.told ms a) (HasOp t.asked) t.asked
+    (all-both (λ a. AnsweredOnce t.told ms a × RefusedNever t.told ms a) (UnansweredOnceOrNever t.told ms) t.asked
+    (all-both (AnsweredOnce t.told ms) (RefusedNever t.told ms) t.asked stands.answered_once stands.refused_never)
+    stands.unanswered_once_or_never)
+    (have-ops t.asked h.apart)) in
+    let busy : AllByRecursion (λ c. c.busy ≡ true → client.entries_of entries c ≡ []) calls =
+    all-map (IsUnmade t.asked) (λ c. c.busy ≡ true → client.entries_of entries c ≡ []) calls (λ c k b. none-of c t.asked ms (k b) all) h.busy in
+    let behind : (a : Asked) → Keeps t.told ms t.asked a → IsBehind ms a = λ a k.
+    is-behind ms a (answer_to t.told a.caller a.call) k.answered k.refused k.unanswered in
+    let fate_is : (c : SeenCall) (a : Asked) → IsCallOf t.told c a → c.busy ≡ false → fate_by false (reply_of (answer_to t.told a.caller a.call)) ≡ client.fate seen c = λ c a g b.
+    ap (fate_by false) (sym (answer-is (printed_by seen) t.told c a printed g.caller g.call)) ∙ ap (λ x. fate_by x (answer_in (printed_by seen) c)) (sym b) in
+    let busy_fate : (c : SeenCall) → c.busy ≡ true → client.Busy ≡ client.fate seen c = λ c b. ap (λ x. fate_by x (answer_in (printed_by seen) c)) (sym b) in
+    record {
+      entries = entries;
+      legal = stands.legal;
+      answered = all-parts (HasOne seen entries) calls
+          (all-map (λ c. c.busy ≡ true → client.entries_of entries c ≡ []) (λ c. c.busy ≡ true → HasOne seen entries c) calls
+          (λ c k b. subst (λ f. HasOneBy c f (client.entries_of entries c)) (busy_fate c b) tt) busy)
+          (made-all t.told (λ c. (c.busy ≡ false) → HasOne seen entries c) (Keeps t.told ms t.asked) (made_calls calls) t.asked
+          (λ c a g k b. subst (λ f. HasOneBy c f (client.entries_of entries c)) (fate_is c a g b)
+          (has-one t.told ms t.asked c a (answer_to t.told a.caller a.call) g.caller g.call g.op all k.op k.answered)) h.made keeps);
+      refused = all-parts (HasNone seen entries) calls
+          (all-map (λ c. c.busy ≡ true → client.entries_of entries c ≡ []) (λ c. c.busy ≡ true → HasNone seen entries c) calls
+          (λ c k b. subst (λ f. HasNoneBy c f (client.entries_of entries c)) (busy_fate c b) (k b)) busy)
+          (made-all t.told (λ c. (c.busy ≡ false) → HasNone seen entries c) (Keeps t.told ms t.asked) (made_calls calls) t.asked
+          (λ c a g k b. subst (λ f. HasNoneBy c f (client.entries_of entries c)) (fate_is c a g b)
+          (has-none ms c a (answer_to t.told a.caller a.call) g.caller g.call g.op k.refused)) h.made keeps);
+      unanswered = all-parts (HasAtMostOne seen entries) calls
+          (all-map (λ c. c.busy ≡ true → client.entries_of entries c ≡ []) (λ c. c.busy ≡ true → HasAtMostOne seen entries c) calls
+          (λ c k b. subst (λ f. HasAtMostOneBy c f (client.entries_of entries c)) (busy_fate c b) tt) busy)
+          (made-all t.told (λ c. (c.busy ≡ false) → HasAtMostOne seen entries c) (Keeps t.told ms t.asked) (made_calls calls) t.asked
+          (λ c a g k b. subst (λ f. HasAtMostOneBy c f (client.entries_of entries c)) (fate_is c a g b)
+          (has-at-most-one ms c a (answer_to t.told a.caller a.call) g.caller g.call g.op k.unanswered)) h.made keeps);
+      others = all-mapped (IsOfACall t.asked) (client.IsOfACall calls) entry_in ms (λ m k. of-made t.told calls t.asked m h.made k) all;
+      ordered = all-parts (λ d. AllByRecursion (λ c. IsOrdered entries c d) calls) calls
+          (all-map (λ d. d.busy ≡ true → client.entries_of entries d ≡ []) (λ d. d.busy ≡ true → AllByRecursion (λ c. IsOrdered entries c d) calls) calls
+          (λ d k b. all-of (λ c. IsOrdered entries c d) calls (λ c. ordered-where c d entries (answer_in d.before c) (none-last c d entries (k b)))) busy)
+          (made-all t.told (λ d. (d.busy ≡ false) → AllByRecursion (λ c. IsOrdered entries c d) calls) (Keeps t.told ms t.asked) (made_calls calls) t.asked
+          (λ d b g k not_busy. all-parts (λ c. IsOrdered entries c d) calls
+          (all-map (λ c. c.busy ≡ true → client.entries_of entries c ≡ []) (λ c. c.busy ≡ true → IsOrdered entries c d) calls
+          (λ c none is. ordered-where c d entries (answer_in d.before c) (none-first c d entries (none is))) busy)
+          (made-all t.told (λ c. (c.busy ≡ false) → IsOrdered entries c d) (Keeps t.told ms t.asked) (made_calls calls) t.asked
+          (λ c a f j other. ordered-two t.told ms c d a b f g in_order j.answered (behind b k)) h.made keeps)) h.made keeps);
+    }
