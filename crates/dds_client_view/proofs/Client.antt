@@ -1,6 +1,6 @@
 -- A run that stands, seen by its clients.
-use Rattle.std.proofs.Common.{◌≡◌, ℕ, ◌+◌, ◌<◌, ◌≤◌, ◌⊎◌, inl, inr, Bool, true, false, List, [], ◌∷◌, ◌++◌, Option, Some, None, refl}
-use Rattle.std.proofs.Common.{sym, ap, subst, ◌∙◌, arith, length}
+use Rattle.std.proofs.Common.{◌≡◌, ℕ, ◌<◌, ◌≤◌, inl, inr, Bool, true, false, List, [], ◌∷◌, ◌++◌, Option, Some, None, refl}
+use Rattle.std.proofs.Common.{sym, ap, subst, ◌∙◌, arith}
 use Rattle.std.specs.Prelude.{filter, map, not, ◌&&◌, ◌||◌, ◌==◌, if◌then◌else◌}
 use Rattle.std.specs.List.{AllByRecursion}
 use Rattle.dds_base.specs.Op.{is_get}
@@ -9,7 +9,7 @@ use Rattle.dds_client_view.proofs.Calls.{AreMade, IsBefore, IsCallOf, made-all, 
 use Rattle.dds_client_view.proofs.Order.{IsInOrder, NoLater}
 use Rattle.dds_client_view.proofs.Sees.{HasOp, Keeps, all-mapped, answer-first, answer-has, answer-is, entry_in, has-at-most-one, has-none, has-one, have-ops, reply_of}
 use Rattle.dds_client_view.proofs.Sees.{result-same}
-use Rattle.dds_client_view.proofs.Shows.{IsOther, IsUnmade, Shows, made_calls}
+use Rattle.dds_client_view.proofs.Shows.{IsUnmade, Shows, made_calls}
 use Rattle.dds_client_view.specs.Client as client
 use Rattle.dds_client_view.specs.Client.{ClientSees, HasAtMostOne, HasAtMostOneBy, HasNone, HasNoneBy, HasOne, HasOneBy, IsOrdered, IsOrderedBy, StandsFirst, fate_by}
 use Rattle.dds_client_view.specs.Client.{is_entry_of}
@@ -18,8 +18,7 @@ use Rattle.dds_cluster.specs.Lists.{is_asked, is_call_of}
 use Rattle.dds_cluster.specs.declared.trace.Asked.{Asked}
 use Rattle.dds_cluster.specs.declared.trace.Made.{Made}
 use Rattle.dds_cluster.specs.declared.trace.Told.{Told}
-use Rattle.dds_cluster.specs.declared.trace.Trace.{Trace}
-use Rattle.dds_core.proofs.Lists.{all-both, all-filter, all-map}
+use Rattle.dds_core.proofs.Lists.{all-both, all-map}
 use Rattle.dds_history.specs.declared.entry.Entry.{Entry}
 use Rattle.dds_net.proofs.Pairwise.{Pairwise, pairs-filter}
 use Rattle.dds_walk.specs.declared.walk.Walk.{Walk}
@@ -84,9 +83,9 @@ stands-first : (at : ℕ) (c d : SeenCall) (ms : List Made) → Pairwise NoLater
 stands-first at c d [] order h k = tt
 stands-first at c d (m ∷ ms) order h k = (
   (λ is.
-    let late = first-of (λ x. at < x.place) (is_of d) m ms is k in
-    filter-in c ms
-    ∙ ap (map entry_in) (none-behind (is_of c) m.place at ms late order.0 (rest-of (λ x. x.place < at) (is_of c) m ms h))),
+      let late = first-of (λ x. at < x.place) (is_of d) m ms is k in
+      filter-in c ms
+      ∙ ap (map entry_in) (none-behind (is_of c) m.place at ms late order.0 (rest-of (λ x. x.place < at) (is_of c) m ms h))),
   stands-first at c d ms order.1 (rest-of (λ x. x.place < at) (is_of c) m ms h) (rest-of (λ x. at < x.place) (is_of d) m ms k),
 )
 

@@ -11,7 +11,7 @@ use Rattle.dds_base.specs.declared.number.CallerNo.{CallerNo}
 use Rattle.dds_base.specs.declared.op.Op.{Op}
 use Rattle.dds_client_view.proofs.Prints.{IsAside, Prints, prints-line, prints-played}
 use Rattle.dds_client_view.proofs.Shows.{Shows, shows-aside, shows-busy, shows-made}
-use Rattle.dds_client_view.specs.Printed.{seen_from}
+use Rattle.dds_client_view.proofs.Printed.{seen_from}
 use Rattle.dds_client_view.specs.Seen.{SeenLine}
 use Rattle.dds_cluster.specs.Trace.{adds, is_possible, may_call, next}
 use Rattle.dds_cluster.specs.Turn.{turn}
@@ -79,9 +79,10 @@ shows-called : (o : OpeningOf) (before : List SeenLine) (w : Walk) (caller : Cal
     → IsNext before (line.Call caller op) w (called w caller op c busy)
 shows-called o before w caller op c true g e is there h =
     let v = called w caller op c true in
-    let call = next_call w caller in
-    (shows-busy before w v (seen_between (line.Call caller op) w v) caller call op refl (printed-is w v (report.Busy caller call ∷ []) refl) refl there h,
-    length-set w.counts caller _)
+    let call = next_call w caller in (
+      shows-busy before w v (seen_between (line.Call caller op) w v) caller call op refl (printed-is w v (report.Busy caller call ∷ []) refl) refl there h,
+      length-set w.counts caller _,
+    )
 shows-called o before w caller op c false g e is there h =
     let v = called w caller op c false in
     let call = next_call w caller in
@@ -90,9 +91,10 @@ shows-called o before w caller op c false g e is there h =
     let a : Asked = record { place = w.trace.steps; caller = caller; call = call; op = op } in
     let low : c.least ≤ slice_index_or w.counts caller 0 = counted-get w.trace.callers w.counts caller c g.counted e in
     let possible : is_possible w.trace s ≡ true = ap (λ x. may_call x c.library call) e ∙ call-possible c call is low in
-    let p = prints-played (a ∷ []) u s g.rest (asked-one w.trace s (a ∷ []) possible refl) in
-    (shows-made before w v (seen_between (line.Call caller op) w v) caller call op a p refl (printed-is w v p.more p.lines) refl (h.counts caller there) there h,
-    ap length p.counts ∙ length-set w.counts caller _)
+    let p = prints-played (a ∷ []) u s g.rest (asked-one w.trace s (a ∷ []) possible refl) in (
+      shows-made before w v (seen_between (line.Call caller op) w v) caller call op a p refl (printed-is w v p.more p.lines) refl (h.counts caller there) there h,
+      ap length p.counts ∙ length-set w.counts caller _,
+    )
 
 shows-there : (o : OpeningOf) (before : List SeenLine) (w : Walk) (caller : CallerNo) (op : Op) (c : Option Caller)
     → IsWalked o w → slice_get w.trace.callers caller ≡ c → caller < length w.counts → Shows before w

@@ -1,8 +1,8 @@
 -- What the lines of a script print, ask and are told, on a walk that follows no journal.
-use Rattle.std.proofs.Common.{◌≡◌, ℕ, ◌+◌, ◌<◌, ◌≤◌, Bool, true, false, List, [], ◌∷◌, ◌++◌, Option, Some, None, zero, suc, refl}
+use Rattle.std.proofs.Common.{◌≡◌, ℕ, ◌+◌, ◌≤◌, Bool, true, false, List, [], ◌∷◌, ◌++◌, Option, Some, None, zero, suc, refl}
 use Rattle.std.proofs.Common.{sym, ap, subst, ◌∙◌, arith, append_assoc, length}
 use Rattle.std.specs.Prelude.{map, not, ◌&&◌, ◌||◌, ◌==◌, is_some, slice_get, if◌then◌else◌, IfSome}
-use Rattle.std.specs.List.{AllByRecursion, flat_map, list_any}
+use Rattle.std.specs.List.{AllByRecursion, list_any}
 use Rattle.std.proofs.lemmas.Grind.{flat_map-append}
 use Rattle.std.proofs.lemmas.List.{append-nil, map-append}
 use Rattle.std.proofs.lemmas.List.Elements.{filter-append}
@@ -13,7 +13,7 @@ use Rattle.dds_base.specs.declared.op.Order.TheVariants as order
 use Rattle.dds_client_view.proofs.Calls.{IsBefore, told_answer}
 use Rattle.dds_client_view.specs.Law.{body, is_last}
 use Rattle.dds_client_view.specs.Seen.{answer_on, answers_in, is_busy}
-use Rattle.dds_cluster.specs.Trace.{adds, asked_by, is_possible, next, replies_in, told_at, told_by}
+use Rattle.dds_cluster.specs.Trace.{adds, is_possible, next, replies_in, told_at}
 use Rattle.dds_cluster.specs.Turn.{turn}
 use Rattle.dds_cluster.specs.World.{World, brick_at}
 use Rattle.dds_cluster.specs.declared.step.Input.TheVariants as input

@@ -1,30 +1,26 @@
 -- What lines show of a run that stands.
-use Rattle.std.proofs.Common.{◌≡◌, ℕ, ◌+◌, ◌<◌, ◌≤◌, ◌⊎◌, inl, inr, Bool, true, false, List, [], ◌∷◌, ◌++◌, Option, Some, None, refl}
+use Rattle.std.proofs.Common.{◌≡◌, ℕ, ◌≤◌, inl, inr, Bool, true, false, List, [], ◌∷◌, ◌++◌, Option, Some, None, refl}
 use Rattle.std.proofs.Common.{sym, ap, subst, ◌∙◌, arith, length}
-use Rattle.std.specs.Prelude.{filter, map, not, ◌&&◌, ◌||◌, ◌==◌, if◌then◌else◌}
+use Rattle.std.specs.Prelude.{filter, map, ◌&&◌, ◌==◌, if◌then◌else◌}
 use Rattle.std.specs.List.{AllByRecursion}
 use Rattle.std.proofs.lemmas.Bool.Decides.{nat_tests}
 use Rattle.dds_base.specs.Op.{is_get}
 use Rattle.dds_base.specs.declared.number.CallNo.{CallNo}
-use Rattle.dds_base.specs.declared.op.Op.{Op}
 use Rattle.dds_base.specs.declared.op.Reply.{Reply}
 use Rattle.dds_base.specs.declared.op.Reply.TheVariants as reply
-use Rattle.dds_client_view.proofs.Calls.{AreMade, IsBefore, IsCallOf, made-all, told_answer}
-use Rattle.dds_client_view.proofs.Order.{NoLater}
-use Rattle.dds_client_view.proofs.Shows.{IsOther, IsUnmade, made_calls}
+use Rattle.dds_client_view.proofs.Calls.{told_answer}
+use Rattle.dds_client_view.proofs.Shows.{IsOther}
 use Rattle.dds_client_view.specs.Client as client
 use Rattle.dds_client_view.specs.Client.{HasAtMostOne, HasAtMostOneBy, HasNone, HasNoneBy, HasOne, HasOneBy, IsOrdered, IsOrderedBy, StandsFirst, entry_of, fate, fate_by}
 use Rattle.dds_client_view.specs.Client.{is_entry_of, is_loss}
-use Rattle.dds_client_view.specs.Seen.{SeenCall, SeenLine, answer_in, answers_in, calls_in, first_answer, printed_by}
-use Rattle.dds_cluster.specs.Lists.{is_asked, is_call_of}
+use Rattle.dds_client_view.specs.Seen.{SeenCall, answer_in, answers_in, first_answer}
 use Rattle.dds_cluster.specs.declared.trace.Asked.{Asked}
 use Rattle.dds_cluster.specs.declared.trace.Made.{Made}
 use Rattle.dds_cluster.specs.declared.trace.Told.{Told}
-use Rattle.dds_cluster.specs.declared.trace.Trace.{Trace}
 use Rattle.dds_core.proofs.Lists.{all-both, all-filter, all-map}
 use Rattle.dds_history.specs.declared.entry.Entry.{Entry}
 use Rattle.dds_net.proofs.Pairwise.{Pairwise}
-use Rattle.dds_world.specs.Stands.{AnsweredOnce, AnsweredOnceBy, AtMostOneAfter, HasOneEntry, IsOfACall, RefusedNever, RefusedNeverBy, UnansweredOnceOrNever}
+use Rattle.dds_world.specs.Stands.{AnsweredOnce, AnsweredOnceBy, AtMostOneAfter, IsOfACall, RefusedNever, RefusedNeverBy, UnansweredOnceOrNever}
 use Rattle.dds_world.specs.Stands.{UnansweredOnceOrNeverBy, answer_to, answers, entries_of, is_refusal, is_result}
 
 abbrev pub entry_in : Made → Entry
@@ -124,7 +120,7 @@ have-ops [] h = tt
 have-ops (a ∷ asked) h = (
   (λ m k e f. op-first a asked m h.0 k e f),
   all-map (λ b. IsOther a b × HasOp asked b) (HasOp (a ∷ asked)) asked (λ b k m i e f. op-later a b asked m k.0 k.1 i e f)
-  (all-both (IsOther a) (HasOp asked) asked h.0 (have-ops asked h.1)),
+      (all-both (IsOther a) (HasOp asked) asked h.0 (have-ops asked h.1)),
 )
 
 -- what both say of replies

@@ -1,43 +1,29 @@
 -- What the lines of a script show of the run that they make.
-use Rattle.std.proofs.Common.{◌≡◌, ℕ, ◌+◌, ◌<◌, ◌≤◌, Bool, true, false, List, [], ◌∷◌, ◌++◌, Option, Some, None, zero, suc, refl}
+use Rattle.std.proofs.Common.{◌≡◌, ℕ, ◌+◌, ◌<◌, ◌≤◌, Bool, true, false, List, [], ◌∷◌, ◌++◌, zero, suc, refl}
 use Rattle.std.proofs.Common.{sym, ap, subst, ◌∙◌, arith, append_assoc, length}
-use Rattle.std.specs.Prelude.{drop, filter, map, not, ◌&&◌, ◌||◌, ◌==◌, is_none, is_some, slice_get, slice_index_or, slice_set, if◌then◌else◌}
-use Rattle.std.specs.List.{AllByRecursion, flat_map, list_any}
+use Rattle.std.specs.Prelude.{filter, map, not, ◌&&◌, ◌||◌, ◌==◌, slice_index_or, slice_set, if◌then◌else◌}
+use Rattle.std.specs.List.{AllByRecursion, list_any}
 use Rattle.std.proofs.lemmas.Bool.Decides.{nat_tests}
 use Rattle.std.proofs.lemmas.Grind.{flat_map-append}
 use Rattle.std.proofs.lemmas.List.{append-nil, length-append, length-set, map-append}
 use Rattle.std.proofs.lemmas.List.Elements.{filter-append}
-use Rattle.std.proofs.Math.Seq.{drop-append_seam}
 use Rattle.dds_base.specs.declared.number.CallNo.{CallNo}
 use Rattle.dds_base.specs.declared.number.CallerNo.{CallerNo}
 use Rattle.dds_base.specs.declared.op.Op.{Op}
 use Rattle.dds_client_view.proofs.Calls.{AreMade, IsBefore, IsCallOf, made-later, made-push, told_answer}
-use Rattle.dds_client_view.proofs.Prints.{IsAside, Prints, prints-line, prints-played}
+use Rattle.dds_client_view.proofs.Prints.{IsAside, Prints}
 use Rattle.dds_client_view.specs.Law.{body, is_last}
-use Rattle.dds_client_view.specs.Printed.{seen_from}
 use Rattle.dds_client_view.specs.Seen.{SeenCall, SeenLine, answer_on, answers_in, call_of, calls_behind, calls_in, is_busy, is_line_of, lines_of, printed_by}
 use Rattle.dds_cluster.specs.Lists.{is_asked, is_call_of}
-use Rattle.dds_cluster.specs.Trace.{adds, asked_by, is_possible, may_call, next}
-use Rattle.dds_cluster.specs.Turn.{turn}
-use Rattle.dds_cluster.specs.declared.step.Input.TheVariants as input
-use Rattle.dds_cluster.specs.declared.step.Step.{Step}
-use Rattle.dds_cluster.specs.declared.step.Step.TheVariants as step
 use Rattle.dds_cluster.specs.declared.trace.Asked.{Asked}
-use Rattle.dds_cluster.specs.declared.trace.Caller.{Caller}
 use Rattle.dds_cluster.specs.declared.trace.Told.{Told}
-use Rattle.dds_cluster.specs.declared.trace.Trace.{Trace}
-use Rattle.dds_core.proofs.Lists.{all-append, all-both, all-map}
+use Rattle.dds_core.proofs.Lists.{all-append, all-map}
 use Rattle.dds_net.proofs.Pairwise.{Pairwise, pairs-append}
-use Rattle.dds_script.specs.Opening.{OpeningOf, ranges_of}
-use Rattle.dds_script.specs.Ranges.{IsInRanges}
 use Rattle.dds_script.specs.declared.line.Line.{Line}
 use Rattle.dds_script.specs.declared.line.Line.TheVariants as line
 use Rattle.dds_transcript.specs.declared.report_line.ReportLine.{ReportLine}
 use Rattle.dds_transcript.specs.declared.report_line.ReportLine.TheVariants as report
-use Rattle.dds_walk.proofs.Counted.{AreCounted, counted-get}
-use Rattle.dds_walk.proofs.Picked.{both-true}
-use Rattle.dds_walk.proofs.Walked.{IsWalked, walked-line}
-use Rattle.dds_walk.specs.Walk.{call_alone, call_line, call_with, counted, line_done, lines_done, played, says}
+use Rattle.dds_walk.specs.Walk.{counted, says}
 use Rattle.dds_walk.specs.declared.walk.Walk.{Walk}
 
 -- the calls whose callers weren't busy

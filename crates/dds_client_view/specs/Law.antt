@@ -1,6 +1,5 @@
 -- The law: what a run that stands shows to its clients.
 use Rattle.std.specs.Prelude.{ℕ, ◌≡◌, Bool, true, false, not, List, take, filter, map}
-use Rattle.std.specs.List.{flat_map}
 use Rattle.dds_script.specs.Opening.{IsOpening, IsScript, OpeningOf, ScriptOf}
 use Rattle.dds_script.specs.declared.line.Line.{Line}
 use Rattle.dds_transcript.specs.declared.report_line.ReportLine.{ReportLine}

@@ -1,4 +1,3 @@
 pub mod Seen
 pub mod Client
-pub mod Printed
 pub mod Law
