@@ -35,7 +35,7 @@ read-at : (place : ℕ) (txn : Txn) (value : Option (List ℕ)) (l : Letter) →
 read-at place txn value (letter.Get asked caller call key name stamp) = (refl, tt)
 read-at place txn value other = tt
 
-made-at : (place : ℕ) (l : Letter) (ps : List Point) → AllByRecursion (IsAt place) (points_made place l ps)
+pub made-at : (place : ℕ) (l : Letter) (ps : List Point) → AllByRecursion (IsAt place) (points_made place l ps)
 made-at place l [] = tt
 made-at place l (point.Read txn value ∷ ps) =
     all-append (IsAt place) (read_by place txn value l) (points_made place l ps) (read-at place txn value l) (made-at place l ps)
