@@ -1,23 +1,25 @@
 -- A run that stands, seen by its clients.
 use Rattle.std.proofs.Common.{◌≡◌, ℕ, ◌<◌, ◌≤◌, inl, inr, Bool, true, false, List, [], ◌∷◌, ◌++◌, Option, Some, None, refl}
-use Rattle.std.proofs.Common.{sym, ap, subst, ◌∙◌, arith}
+use Rattle.std.proofs.Common.{sym, ap, subst, ◌∙◌, arith, length}
 use Rattle.std.specs.Prelude.{filter, map, not, ◌&&◌, ◌||◌, ◌==◌, if◌then◌else◌}
 use Rattle.std.specs.List.{AllByRecursion}
+use Rattle.std.proofs.lemmas.Bool.{both_ways}
 use Rattle.dds_base.specs.Op.{is_get}
 use Rattle.dds_base.specs.declared.number.CallNo.{CallNo}
 use Rattle.dds_client_view.proofs.Calls.{AreMade, IsBefore, IsCallOf, made-all, told_answer}
 use Rattle.dds_client_view.proofs.Order.{IsInOrder, NoLater}
 use Rattle.dds_client_view.proofs.Sees.{HasOp, Keeps, all-mapped, answer-first, answer-has, answer-is, entry_in, has-at-most-one, has-none, has-one, have-ops, reply_of}
-use Rattle.dds_client_view.proofs.Sees.{result-same}
-use Rattle.dds_client_view.proofs.Shows.{IsUnmade, Shows, made_calls}
+use Rattle.dds_client_view.proofs.Sees.{IsOver, IsOverBy, no-result}
+use Rattle.dds_client_view.proofs.Shows.{IsOther, IsUnmade, Shows, made_calls}
 use Rattle.dds_client_view.specs.Client as client
-use Rattle.dds_client_view.specs.Client.{ClientSees, HasAtMostOne, HasAtMostOneBy, HasNone, HasNoneBy, HasOne, HasOneBy, IsOrdered, IsOrderedBy, StandsFirst, fate_by}
-use Rattle.dds_client_view.specs.Client.{is_entry_of}
+use Rattle.dds_client_view.specs.Client.{ClientSees, HasAtMostOne, HasNone, HasOne, HasOneBy, IsOrdered, IsOrderedBy, StandsFirst, did_nothing, fate_by}
+use Rattle.dds_client_view.specs.Client.{is_entry_of, is_loss, may_be_done}
 use Rattle.dds_client_view.specs.Seen.{SeenCall, SeenLine, answer_in, answers_in, calls_in, printed_by}
 use Rattle.dds_cluster.specs.Lists.{is_asked, is_call_of}
 use Rattle.dds_cluster.specs.declared.trace.Asked.{Asked}
 use Rattle.dds_cluster.specs.declared.trace.Made.{Made}
 use Rattle.dds_cluster.specs.declared.trace.Told.{Told}
+use Rattle.dds_cluster.specs.declared.trace.Trace.{Trace}
 use Rattle.dds_core.proofs.Lists.{all-both, all-map}
 use Rattle.dds_history.specs.declared.entry.Entry.{Entry}
 use Rattle.dds_net.proofs.Pairwise.{Pairwise, pairs-filter}
@@ -44,6 +46,22 @@ is-behind ms a (Some r) h k l =
     elim (is_result r.reply) as (λ b. is_result r.reply ≡ b → IsBehind ms a) [
       | true ↦ λ e. let one = h e in subst (AllByRecursion (λ m. a.place < m.place)) (sym one.only) (one.after_input, tt)
       | false ↦ λ e. behind-most a.place (entries_of ms a) (l e)
+    ] refl
+
+-- and before its answer
+is-early : (ms : List Made) (a : Asked) (r : Told) → AnsweredOnceBy ms a (Some r) → RefusedNeverBy ms a (Some r) → IsOverBy ms a (Some r)
+    → AllByRecursion (λ m. m.place < r.place) (entries_of ms a)
+is-early ms a r h k over =
+    elim (is_get a.op) as (λ b. is_get a.op ≡ b → AllByRecursion (λ (m : Made). m.place < r.place) (entries_of ms a)) [
+      | false ↦ λ update. over.1 update
+      | true ↦ λ get.
+          elim (is_result r.reply) as (λ b. is_result r.reply ≡ b → AllByRecursion (λ (m : Made). m.place < r.place) (entries_of ms a)) [
+            | true ↦ λ e. let one = h e in subst (AllByRecursion (λ m. m.place < r.place)) (sym one.only) (one.before_answer, tt)
+            | false ↦ λ e. elim (no-result r.reply e) [
+              | inl refused ↦ subst (AllByRecursion (λ m. m.place < r.place)) (sym (k refused)) tt
+              | inr lost ↦ absurd (both_ways (is_get a.op) (over.0 lost) get)
+            ]
+          ] refl
     ] refl
 
 -- points of the first call stand before a place, those of the second behind it
@@ -118,27 +136,29 @@ none-last c d (e ∷ entries) h =
 
 ordered-where : (c d : SeenCall) (entries : List Entry) (o : _) → StandsFirst c d entries → IsOrderedBy c d entries o
 ordered-where c d entries None h = tt
-ordered-where c d entries (Some reply) h = λ result. h
+ordered-where c d entries (Some reply) h = h
 
 -- two calls of the run
 ordered-by : (told first later : List Told) (ms : List Made) (c d : SeenCall) (a b : Asked) (o : Option Told) → told ≡ first ++ later
     → AllByRecursion (IsBefore b.place) first → a.caller ≡ c.caller → a.call ≡ c.call → b.caller ≡ d.caller → b.call ≡ d.call → Pairwise NoLater ms
-    → AnsweredOnce told ms a → IsBehind ms b → answer_to first a.caller a.call ≡ o → IsOrderedBy c d (map entry_in ms) (reply_of o)
-ordered-by told first later ms c d a b None e places f g p q order h behind is = tt
-ordered-by told first later ms c d a b (Some r) e places f g p q order h behind is = λ result.
+    → AnsweredOnce told ms a → RefusedNever told ms a → IsOver told ms a → IsBehind ms b → answer_to first a.caller a.call ≡ o
+    → IsOrderedBy c d (map entry_in ms) (reply_of o)
+ordered-by told first later ms c d a b None e places f g p q order h refused over behind is = tt
+ordered-by told first later ms c d a b (Some r) e places f g p q order h refused over behind is =
     let here : answer_to told a.caller a.call ≡ Some r =
     ap (λ (l : List Told). answer_to l a.caller a.call) e ∙ answer-first first later a.caller a.call r is in
     let before : r.place < b.place = answer-has (IsBefore b.place) first a.caller a.call r places is in
-    let one = subst (AnsweredOnceBy ms a) here h (sym (result-same r.reply) ∙ result) in
-    let early : AllByRecursion (λ m. m.place < b.place) (entries_of ms a) =
-    subst (AllByRecursion (λ m. m.place < b.place)) (sym one.only) (omega (arith, one.before_answer, before), tt) in
-    stands-first b.place c d ms order (own-points (λ m. m.place < b.place) ms c a f g early) (own-points (λ m. b.place < m.place) ms d b p q behind)
+    let early = is-early ms a r (subst (AnsweredOnceBy ms a) here h) (subst (RefusedNeverBy ms a) here refused) (subst (IsOverBy ms a) here over) in
+    let first_part : AllByRecursion (λ m. m.place < b.place) (entries_of ms a) =
+    all-map (λ m. m.place < r.place) (λ m. m.place < b.place) (entries_of ms a) (λ m low. omega (arith, low, before)) early in
+    stands-first b.place c d ms order (own-points (λ m. m.place < b.place) ms c a f g first_part) (own-points (λ m. b.place < m.place) ms d b p q behind)
 
 ordered-two : (told : List Told) (ms : List Made) (c d : SeenCall) (a b : Asked) → IsCallOf told c a → IsCallOf told d b → Pairwise NoLater ms
-    → AnsweredOnce told ms a → IsBehind ms b → IsOrdered (map entry_in ms) c d
-ordered-two told ms c d a b x y order h behind =
+    → AnsweredOnce told ms a → RefusedNever told ms a → IsOver told ms a → IsBehind ms b → IsOrdered (map entry_in ms) c d
+ordered-two told ms c d a b x y order h refused over behind =
     subst (IsOrderedBy c d (map entry_in ms)) (sym (answer-is d.before y.first c a y.printed x.caller x.call))
-    (ordered-by told y.first y.later ms c d a b (answer_to y.first a.caller a.call) y.whole y.places x.caller x.call y.caller y.call order h behind refl)
+    (ordered-by told y.first y.later ms c d a b (answer_to y.first a.caller a.call) y.whole y.places x.caller x.call y.caller y.call order h refused over behind
+    refl)
 
 -- an entry isn't of a call that was never made
 or-left : (a b : Bool) → (a || b) ≡ false → a ≡ false
@@ -195,24 +215,33 @@ all-parts P (c ∷ cs) h k =
       | false ↦ λ e g. (g.0 e, all-parts P cs h.1 g.1)
     ] refl k
 
+-- what is so of each call of a run that stands, where each answered call is over
+keeps-all : (t : Trace) → Pairwise IsOther t.asked → Stands t → AllByRecursion (IsOver t.told (placed_history t)) t.asked
+    → AllByRecursion (Keeps t.told (placed_history t) t.asked) t.asked
+keeps-all t apart stands over =
+    let ms = placed_history t in
+    let One = AnsweredOnce t.told ms in
+    let Never = RefusedNever t.told ms in
+    let Most = UnansweredOnceOrNever t.told ms in
+    let Over = IsOver t.told ms in
+    all-map (λ a. (One a × Never a) × ((Most a × HasOp t.asked a) × Over a)) (Keeps t.told ms t.asked) t.asked
+    (λ a k. record { answered = k.0.0; refused = k.0.1; unanswered = k.1.0.0; op = k.1.0.1; over = k.1.1 })
+    (all-both (λ a. One a × Never a) (λ a. (Most a × HasOp t.asked a) × Over a) t.asked (all-both One Never t.asked stands.answered_once stands.refused_never)
+    (all-both (λ a. Most a × HasOp t.asked a) Over t.asked (all-both Most (HasOp t.asked) t.asked stands.unanswered_once_or_never (have-ops t.asked apart)) over))
+
 -- a run that stands, and the lines that made it
-pub client-sees : (seen : List SeenLine) (w : Walk) → Shows seen w → IsInOrder w.trace → Stands w.trace → ClientSees seen
-client-sees seen w h order stands =
+pub client-sees : (seen : List SeenLine) (w : Walk) → Shows seen w → IsInOrder w.trace → Stands w.trace
+    → AllByRecursion (IsOver w.trace.told (placed_history w.trace)) w.trace.asked → ClientSees seen
+client-sees seen w h order stands over =
     let t = w.trace in
     let ms = placed_history t in
     let entries = map entry_in ms in
     let calls = calls_in seen in
+    let made = made_calls calls in
     let in_order : Pairwise NoLater ms = pairs-filter NoLater (stands_in t.told) t.made order.order in
     let all = stands.entries_are_calls in
     let printed : answers_in (printed_by seen) ≡ map told_answer t.told = ap answers_in h.printed ∙ h.answers in
-    let keeps : AllByRecursion (Keeps t.told ms t.asked) t.asked =
-    all-map (λ a. ((AnsweredOnce t.told ms a × RefusedNever t.told ms a) × UnansweredOnceOrNever t.told ms a) × HasOp t.asked a) (Keeps t.told ms t.asked) t.asked
-    (λ a k. record { answered = k.0.0.0; refused = k.0.0.1; unanswered = k.0.1; op = k.1 })
-    (all-both (λ a. (AnsweredOnce t.told ms a × RefusedNever t.told ms a) × UnansweredOnceOrNever t.told ms a) (HasOp t.asked) t.asked
-    (all-both (λ a. AnsweredOnce t.told ms a × RefusedNever t.told ms a) (UnansweredOnceOrNever t.told ms) t.asked
-    (all-both (AnsweredOnce t.told ms) (RefusedNever t.told ms) t.asked stands.answered_once stands.refused_never)
-    stands.unanswered_once_or_never)
-    (have-ops t.asked h.apart)) in
+    let keeps = keeps-all t h.apart stands over in
     let busy : AllByRecursion (λ c. c.busy ≡ true → client.entries_of entries c ≡ []) calls =
     all-map (IsUnmade t.asked) (λ c. c.busy ≡ true → client.entries_of entries c ≡ []) calls (λ c k b. none-of c t.asked ms (k b) all) h.busy in
     let behind : (a : Asked) → Keeps t.told ms t.asked a → IsBehind ms a = λ a k.
@@ -226,29 +255,28 @@ client-sees seen w h order stands =
       answered = all-parts (HasOne seen entries) calls
           (all-map (λ c. c.busy ≡ true → client.entries_of entries c ≡ []) (λ c. c.busy ≡ true → HasOne seen entries c) calls
           (λ c k b. subst (λ f. HasOneBy c f (client.entries_of entries c)) (busy_fate c b) tt) busy)
-          (made-all t.told (λ c. (c.busy ≡ false) → HasOne seen entries c) (Keeps t.told ms t.asked) (made_calls calls) t.asked
+          (made-all t.told (λ c. (c.busy ≡ false) → HasOne seen entries c) (Keeps t.told ms t.asked) made t.asked
           (λ c a g k b. subst (λ f. HasOneBy c f (client.entries_of entries c)) (fate_is c a g b)
           (has-one t.told ms t.asked c a (answer_to t.told a.caller a.call) g.caller g.call g.op all k.op k.answered)) h.made keeps);
       refused = all-parts (HasNone seen entries) calls
-          (all-map (λ c. c.busy ≡ true → client.entries_of entries c ≡ []) (λ c. c.busy ≡ true → HasNone seen entries c) calls
-          (λ c k b. subst (λ f. HasNoneBy c f (client.entries_of entries c)) (busy_fate c b) (k b)) busy)
-          (made-all t.told (λ c. (c.busy ≡ false) → HasNone seen entries c) (Keeps t.told ms t.asked) (made_calls calls) t.asked
-          (λ c a g k b. subst (λ f. HasNoneBy c f (client.entries_of entries c)) (fate_is c a g b)
-          (has-none ms c a (answer_to t.told a.caller a.call) g.caller g.call g.op k.refused)) h.made keeps);
+          (all-map (λ c. c.busy ≡ true → client.entries_of entries c ≡ []) (λ c. c.busy ≡ true → HasNone seen entries c) calls (λ c k b nothing. k b) busy)
+          (made-all t.told (λ c. (c.busy ≡ false) → HasNone seen entries c) (Keeps t.told ms t.asked) made t.asked
+          (λ c a g k b. subst (λ f. did_nothing c.op f ≡ true → client.entries_of entries c ≡ []) (fate_is c a g b)
+          (has-none ms c a (answer_to t.told a.caller a.call) g.caller g.call g.op k.refused k.over)) h.made keeps);
       unanswered = all-parts (HasAtMostOne seen entries) calls
           (all-map (λ c. c.busy ≡ true → client.entries_of entries c ≡ []) (λ c. c.busy ≡ true → HasAtMostOne seen entries c) calls
-          (λ c k b. subst (λ f. HasAtMostOneBy c f (client.entries_of entries c)) (busy_fate c b) tt) busy)
-          (made-all t.told (λ c. (c.busy ≡ false) → HasAtMostOne seen entries c) (Keeps t.told ms t.asked) (made_calls calls) t.asked
-          (λ c a g k b. subst (λ f. HasAtMostOneBy c f (client.entries_of entries c)) (fate_is c a g b)
+          (λ c k b may. omega (arith, ap length (k b))) busy)
+          (made-all t.told (λ c. (c.busy ≡ false) → HasAtMostOne seen entries c) (Keeps t.told ms t.asked) made t.asked
+          (λ c a g k b. subst (λ f. may_be_done c.op f ≡ true → length (client.entries_of entries c) ≤ 1) (fate_is c a g b)
           (has-at-most-one ms c a (answer_to t.told a.caller a.call) g.caller g.call g.op k.unanswered)) h.made keeps);
       others = all-mapped (IsOfACall t.asked) (client.IsOfACall calls) entry_in ms (λ m k. of-made t.told calls t.asked m h.made k) all;
       ordered = all-parts (λ d. AllByRecursion (λ c. IsOrdered entries c d) calls) calls
           (all-map (λ d. d.busy ≡ true → client.entries_of entries d ≡ []) (λ d. d.busy ≡ true → AllByRecursion (λ c. IsOrdered entries c d) calls) calls
           (λ d k b. all-of (λ c. IsOrdered entries c d) calls (λ c. ordered-where c d entries (answer_in d.before c) (none-last c d entries (k b)))) busy)
-          (made-all t.told (λ d. (d.busy ≡ false) → AllByRecursion (λ c. IsOrdered entries c d) calls) (Keeps t.told ms t.asked) (made_calls calls) t.asked
+          (made-all t.told (λ d. (d.busy ≡ false) → AllByRecursion (λ c. IsOrdered entries c d) calls) (Keeps t.told ms t.asked) made t.asked
           (λ d b g k not_busy. all-parts (λ c. IsOrdered entries c d) calls
           (all-map (λ c. c.busy ≡ true → client.entries_of entries c ≡ []) (λ c. c.busy ≡ true → IsOrdered entries c d) calls
           (λ c none is. ordered-where c d entries (answer_in d.before c) (none-first c d entries (none is))) busy)
-          (made-all t.told (λ c. (c.busy ≡ false) → IsOrdered entries c d) (Keeps t.told ms t.asked) (made_calls calls) t.asked
-          (λ c a f j other. ordered-two t.told ms c d a b f g in_order j.answered (behind b k)) h.made keeps)) h.made keeps);
+          (made-all t.told (λ c. (c.busy ≡ false) → IsOrdered entries c d) (Keeps t.told ms t.asked) made t.asked
+          (λ c a f j other. ordered-two t.told ms c d a b f g in_order j.answered j.refused j.over (behind b k)) h.made keeps)) h.made keeps);
     }

@@ -1,5 +1,5 @@
 -- A call that was answered is over: its update has no point behind the answer, and where it was answered Lost it is an update.
-use Rattle.std.proofs.Common.{◌≡◌, ℕ, ◌+◌, ◌<◌, ◌≤◌, ◌++◌, Bool, true, false, Option, Some, None, List, [], ◌∷◌, refl, sym, ap, ◌∙◌, subst, arith}
+use Rattle.std.proofs.Common.{◌≡◌, ℕ, ◌+◌, ◌<◌, ◌≤◌, ◌++◌, true, false, Option, Some, None, List, [], ◌∷◌, refl, sym, ap, ◌∙◌, subst, arith}
 use Rattle.std.proofs.lemmas.Bool.{both_ways}
 use Rattle.std.specs.List.{AllByRecursion}
 use Rattle.std.specs.Prelude.{slice_get}
@@ -8,11 +8,10 @@ use Rattle.dds_attempts.proofs.Runs.{Stands, stands-kept}
 use Rattle.dds_base.specs.Number.{Txn}
 use Rattle.dds_base.specs.Op.{is_get}
 use Rattle.dds_base.specs.declared.number.CallNo.{CallNo}
-use Rattle.dds_base.specs.declared.op.Op.{Op}
 use Rattle.dds_base.specs.declared.op.Reply.{Reply}
 use Rattle.dds_base.specs.declared.op.Reply.TheVariants as reply
 use Rattle.dds_books.specs.Books.{Book, booked}
-use Rattle.dds_books.specs.Calls.{CallsOk, IsOwned, LibraryIs}
+use Rattle.dds_books.specs.Calls.{IsOwned, LibraryIs}
 use Rattle.dds_books.specs.Placed.{CallOk, LibraryOk, Made, NodeOk, PhaseOk}
 use Rattle.dds_call_rows.specs.Library.{begin}
 use Rattle.dds_calls.proofs.Answered.{differ, made-all}
@@ -30,13 +29,13 @@ use Rattle.dds_cluster.specs.declared.trace.Made as trace
 use Rattle.dds_cluster.specs.declared.trace.Told.{Told}
 use Rattle.dds_core.proofs.CallDoes.{call-does, new-begins}
 use Rattle.dds_core.proofs.LetterTells.{letter-tells}
-use Rattle.dds_core.proofs.Lists.{all-append, all-both, all-is, all-map}
+use Rattle.dds_core.proofs.Lists.{all-append, all-is, all-map}
 use Rattle.dds_core.proofs.OrderTells.{order-tells}
 use Rattle.dds_core.proofs.Tells.{Given, Gives}
 use Rattle.dds_core.specs.Brick.{brick_input, live_brick_turn}
 use Rattle.dds_core.specs.LibraryTurn.{call_row, desk_of, live_library_turn, new_request, replies_of as replies_in}
 use Rattle.dds_letters.specs.declared.letter.Letter.{Letter}
-use Rattle.dds_net.proofs.Rungs.{Both, IsKeptOver, both_books, kept-over}
+use Rattle.dds_net.proofs.Rungs.{Both, both_books, kept-over}
 use Rattle.dds_net.proofs.Runs.{IsBuilt, run-keeps}
 use Rattle.dds_net.specs.Event.{Event, Fits, History, asked_of, brick_takes, brick_told, goes, history_of, library_asked, library_takes, opened_of, points_of}
 use Rattle.dds_net.specs.Event.{replies_of}
@@ -52,7 +51,6 @@ use Rattle.dds_outcomes.proofs.Points.{kept-all}
 use Rattle.dds_script.specs.Opening.{IsOpening, OpeningOf}
 use Rattle.dds_states.specs.declared.library_state.LibraryState.{LibraryState}
 use Rattle.dds_states.specs.declared.library_state.OpenCall.{OpenCall}
-use Rattle.dds_states.specs.declared.library_state.Phase.TheVariants as phase
 use Rattle.dds_states.specs.declared.turn.Replied.{Replied}
 use Rattle.dds_states.specs.declared.turn.Replied.TheVariants as replied
 use Rattle.dds_talk.specs.Books as talk

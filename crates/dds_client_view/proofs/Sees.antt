@@ -1,8 +1,9 @@
 -- What lines show of a run that stands.
-use Rattle.std.proofs.Common.{◌≡◌, ℕ, ◌≤◌, inl, inr, Bool, true, false, List, [], ◌∷◌, ◌++◌, Option, Some, None, refl}
+use Rattle.std.proofs.Common.{◌≡◌, ◌<◌, ◌⊎◌, ℕ, ◌≤◌, inl, inr, Bool, true, false, List, [], ◌∷◌, ◌++◌, Option, Some, None, refl}
 use Rattle.std.proofs.Common.{sym, ap, subst, ◌∙◌, arith, length}
-use Rattle.std.specs.Prelude.{filter, map, ◌&&◌, ◌==◌, if◌then◌else◌}
+use Rattle.std.specs.Prelude.{◌||◌, not, filter, map, ◌&&◌, ◌==◌, if◌then◌else◌}
 use Rattle.std.specs.List.{AllByRecursion}
+use Rattle.std.proofs.lemmas.Bool.{and_parts, both_ways, eqb-true}
 use Rattle.std.proofs.lemmas.Bool.Decides.{nat_tests}
 use Rattle.dds_base.specs.Op.{is_get}
 use Rattle.dds_base.specs.declared.number.CallNo.{CallNo}
@@ -11,8 +12,7 @@ use Rattle.dds_base.specs.declared.op.Reply.TheVariants as reply
 use Rattle.dds_client_view.proofs.Calls.{told_answer}
 use Rattle.dds_client_view.proofs.Shows.{IsOther}
 use Rattle.dds_client_view.specs.Client as client
-use Rattle.dds_client_view.specs.Client.{HasAtMostOne, HasAtMostOneBy, HasNone, HasNoneBy, HasOne, HasOneBy, IsOrdered, IsOrderedBy, StandsFirst, entry_of, fate, fate_by}
-use Rattle.dds_client_view.specs.Client.{is_entry_of, is_loss}
+use Rattle.dds_client_view.specs.Client.{HasOneBy, did_nothing, entry_of, fate_by, is_entry_of, is_loss, may_be_done}
 use Rattle.dds_client_view.specs.Seen.{SeenCall, answer_in, answers_in, first_answer}
 use Rattle.dds_cluster.specs.declared.trace.Asked.{Asked}
 use Rattle.dds_cluster.specs.declared.trace.Made.{Made}
@@ -39,7 +39,7 @@ pub all-mapped : {A B : Type 0} (P : A → Type 0) (Q : B → Type 0) (f : A →
 all-mapped P Q f [] h k = tt
 all-mapped P Q f (x ∷ xs) h k = (h x k.0, all-mapped P Q f xs h k.1)
 
-all-passed : {A : Type 0} (p : A → Bool) (xs : List A) → AllByRecursion (λ x. p x ≡ true) (filter p xs)
+pub all-passed : {A : Type 0} (p : A → Bool) (xs : List A) → AllByRecursion (λ x. p x ≡ true) (filter p xs)
 all-passed p [] = tt
 all-passed {A} p (x ∷ xs) =
     elim (p x) as (λ b. p x ≡ b → AllByRecursion (λ (y : A). p y ≡ true) (if b then x ∷ filter p xs else filter p xs)) [
@@ -96,6 +96,20 @@ answer-has P (x ∷ xs) caller call r h e =
       | false ↦ λ k. answer-has P xs caller call r h.1 k
     ] e
 
+pub answer-own : (xs : List Told) (caller : ℕ) (call : CallNo) (r : Told) → answer_to xs caller call ≡ Some r → (r.caller ≡ caller) × (r.call ≡ call)
+answer-own [] caller call r e = absurd (cc)
+answer-own (x ∷ xs) caller call r e =
+    elim (answers caller call x)
+    as (λ b. answers caller call x ≡ b → (if b then Some x else answer_to xs caller call) ≡ Some r → (r.caller ≡ caller) × (r.call ≡ call)) [
+      | true ↦ λ test k.
+          let is : x ≡ r = cc in
+          let parts = and_parts (x.caller == caller) (x.call.0 == call.0) test in
+          let number : x.call.0 ≡ call.0 = eqb-true x.call.0 call.0 parts.1 in
+          let its : x.call ≡ call = λ i. record { 0 = number i } in
+          (sym (ap (λ (y : Told). y.caller) is) ∙ eqb-true x.caller caller parts.0, sym (ap (λ (y : Told). y.call) is) ∙ its)
+      | false ↦ λ test k. answer-own xs caller call r k
+    ] refl e
+
 -- the calls of the run have different callers or numbers, so an entry has its call's operation
 abbrev pub HasOp : List Asked → Asked → Type 0
 HasOp asked a = (m : Made) → IsOfACall asked m → m.entry.caller ≡ a.caller → m.entry.call ≡ a.call → m.entry.op ≡ a.op
@@ -142,9 +156,24 @@ refusal-same (reply.Again met) = refl
 refusal-same (reply.Full brick) = refl
 refusal-same (reply.Lost name) = refl
 
-no-result : (r : Reply) → is_loss r ≡ true → is_result r ≡ false
-no-result (reply.Lost name) e = refl
+-- a reply that isn't a result
+pub no-result : (r : Reply) → is_result r ≡ false → (is_refusal r ≡ true) ⊎ (is_loss r ≡ true)
+no-result (reply.Again met) e = inl refl
+no-result (reply.Full brick) e = inl refl
+no-result (reply.Lost name) e = inr refl
 no-result other e = absurd (cc)
+
+loss-no-result : (r : Reply) → is_loss r ≡ true → is_result r ≡ false
+loss-no-result (reply.Lost name) e = refl
+loss-no-result other e = absurd (cc)
+
+-- a call that was answered is over: where it was answered Lost it is an update, and an update has no entry behind its answer
+abbrev pub IsOverBy : List Made → Asked → Option Told → Type 0
+IsOverBy ms a None = Unit {0}
+IsOverBy ms a (Some r) = (is_loss r.reply ≡ true → is_get a.op ≡ false) × (is_get a.op ≡ false → AllByRecursion (λ m. m.place < r.place) (entries_of ms a))
+
+abbrev pub IsOver : List Told → List Made → Asked → Type 0
+IsOver told ms a = IsOverBy ms a (answer_to told a.caller a.call)
 
 -- what is so of a call of the run
 pub record Keeps (told : List Told) (ms : List Made) (asked : List Asked) (a : Asked) : Type 0 where
@@ -152,6 +181,7 @@ pub record Keeps (told : List Told) (ms : List Made) (asked : List Asked) (a : A
   pub refused : RefusedNever told ms a
   pub unanswered : UnansweredOnceOrNever told ms a
   pub op : HasOp asked a
+  pub over : IsOver told ms a
 
 -- the entry of an answered call
 the-entry : (c : SeenCall) (a : Asked) (r : Reply) (m : Made) → a.caller ≡ c.caller → a.call ≡ c.call → a.op ≡ c.op
@@ -181,18 +211,30 @@ has-one told ms asked c a (Some r) e f g all op h = λ result.
     ∙ ap (λ (x : Entry). x ∷ []) (the-entry c a r.reply m e f g caller call (op m its caller call) one.reply)
 
 pub has-none : (ms : List Made) (c : SeenCall) (a : Asked) (t : Option Told) → a.caller ≡ c.caller → a.call ≡ c.call → a.op ≡ c.op
-    → RefusedNeverBy ms a t → HasNoneBy c (fate_by false (reply_of t)) (client.entries_of (map entry_in ms) c)
-has-none ms c a None e f g h = λ get. own-entries ms c a e f ∙ ap (map entry_in) (h (ap is_get g ∙ get))
-has-none ms c a (Some r) e f g h = λ refused. own-entries ms c a e f ∙ ap (map entry_in) (h (sym (refusal-same r.reply) ∙ refused))
+    → RefusedNeverBy ms a t → IsOverBy ms a t → did_nothing c.op (fate_by false (reply_of t)) ≡ true → client.entries_of (map entry_in ms) c ≡ []
+has-none ms c a None e f g h over nothing = own-entries ms c a e f ∙ ap (map entry_in) (h (ap is_get g ∙ nothing))
+has-none ms c a (Some r) e f g h over nothing =
+    elim (client.is_refusal r.reply)
+    as (λ b. client.is_refusal r.reply ≡ b → (b || (is_get c.op && is_loss r.reply)) ≡ true → client.entries_of (map entry_in ms) c ≡ []) [
+      | true ↦ λ refused any. own-entries ms c a e f ∙ ap (map entry_in) (h (sym (refusal-same r.reply) ∙ refused))
+      | false ↦ λ no both.
+          let parts = and_parts (is_get c.op) (is_loss r.reply) both in
+          absurd (both_ways (is_get a.op) (over.0 parts.1) (ap is_get g ∙ parts.0))
+    ] refl nothing
 
 at-most : (at : ℕ) (ms : List Made) → AtMostOneAfter at ms → length (map entry_in ms) ≤ 1
 at-most at [] h = omega arith
 at-most at (m ∷ []) h = omega arith
 at-most at (m ∷ n ∷ ms) h = absurd h
 
+from-not : (b : Bool) → not b ≡ true → b ≡ false
+from-not true e = absurd (cc)
+from-not false e = refl
+
 pub has-at-most-one : (ms : List Made) (c : SeenCall) (a : Asked) (t : Option Told) → a.caller ≡ c.caller → a.call ≡ c.call → a.op ≡ c.op
-    → UnansweredOnceOrNeverBy ms a t → HasAtMostOneBy c (fate_by false (reply_of t)) (client.entries_of (map entry_in ms) c)
-has-at-most-one ms c a None e f g h = λ update.
-    omega (arith, ap length (own-entries ms c a e f), at-most a.place (entries_of ms a) (h (ap is_get g ∙ update)))
-has-at-most-one ms c a (Some r) e f g h = λ lost.
-    omega (arith, ap length (own-entries ms c a e f), at-most a.place (entries_of ms a) (h (no-result r.reply lost)))
+    → UnansweredOnceOrNeverBy ms a t → may_be_done c.op (fate_by false (reply_of t)) ≡ true → length (client.entries_of (map entry_in ms) c) ≤ 1
+has-at-most-one ms c a None e f g h open_update =
+    omega (arith, ap length (own-entries ms c a e f), at-most a.place (entries_of ms a) (h (ap is_get g ∙ from-not (is_get c.op) open_update)))
+has-at-most-one ms c a (Some r) e f g h lost =
+    let parts = and_parts (not (is_get c.op)) (is_loss r.reply) lost in
+    omega (arith, ap length (own-entries ms c a e f), at-most a.place (entries_of ms a) (h (loss-no-result r.reply parts.1)))

@@ -7,7 +7,10 @@ use Rattle.std.proofs.lemmas.List.{append-nil, length-replicate}
 use Rattle.std.proofs.lemmas.List.Elements.{filter-append}
 use Rattle.dds_base.specs.declared.number.CallNo.{CallNo}
 use Rattle.dds_client_view.proofs.Client.{client-sees}
+use Rattle.dds_client_view.proofs.Ended.{AreEnded, run-ended}
 use Rattle.dds_client_view.proofs.Lines.{seen_between, shows-lines}
+use Rattle.dds_client_view.proofs.Over.{are-over}
+use Rattle.dds_client_view.proofs.Sees.{have-ops}
 use Rattle.dds_client_view.proofs.Order.{IsInOrder, run-in-order}
 use Rattle.dds_client_view.proofs.Shows.{Shows}
 use Rattle.dds_client_view.specs.Law.{IsShown, body, is_last, prints}
@@ -16,6 +19,8 @@ use Rattle.dds_client_view.specs.Seen.{SeenLine, printed_by}
 use Rattle.dds_cluster.specs.Trace.{run_of}
 use Rattle.dds_cluster.specs.declared.step.TheConstants.{EVENTS}
 use Rattle.dds_cluster.specs.declared.trace.Caller.{Caller}
+use Rattle.dds_cluster.specs.declared.trace.Trace.{Trace}
+use Rattle.dds_net.specs.Event.{history_of}
 use Rattle.dds_script.specs.Opening.{IsOpening, IsScript, OpeningOf, ScriptOf, ranges_of}
 use Rattle.dds_script.specs.Ranges.{IsInRanges, IsRanges}
 use Rattle.dds_script.specs.declared.line.Line.{Line}
@@ -23,7 +28,7 @@ use Rattle.dds_transcript.specs.declared.report_line.OrderKind.{OrderKind}
 use Rattle.dds_transcript.specs.declared.report_line.ReportLine.{ReportLine}
 use Rattle.dds_transcript.specs.declared.report_line.ReportLine.TheVariants as report
 use Rattle.dds_walk.proofs.AlongLines.{lines-alone}
-use Rattle.dds_walk.proofs.Walked.{IsWalked, walked-first, walked-line}
+use Rattle.dds_walk.proofs.Walked.{IsWalked, steps-run, walked-first, walked-line}
 use Rattle.dds_walk.specs.Walk.{ended, first_walk, last_lines, line_done, lines_done, open_call_of, open_calls, open_order_of, open_orders, steps}
 use Rattle.dds_walk.specs.declared.walk.Walk.{Walk}
 use Rattle.dds_world.specs.Stands.{Stands, history}
@@ -124,6 +129,10 @@ is-shown script opening h stands =
     let seen = seen_from EVENTS first script.lines in
     let walked = walked-all o EVENTS first script.lines r.bricks h.lines (walked-first script) in
     let in_order : IsInOrder v.trace = subst IsInOrder (sym walked.trace) (run-in-order o v.steps) in
+    let ended : AreEnded (history_of v.trace) =
+    subst (λ (t : Trace). AreEnded (history_of t)) (sym walked.trace) (run-ended o v.steps opening (steps-run EVENTS script r h.lines)) in
+    let shows = shows-all EVENTS script r h.lines in
+    let stand : Stands v.trace = subst Stands (sym walked.trace) stands in
     record {
       seen = seen;
       is_seen = record {
@@ -132,5 +141,5 @@ is-shown script opening h stands =
             body-printed (record { opening = o; lines = take n script.lines }) r (all-take (IsInRanges (ranges_of o)) n script.lines h.lines)
             ∙ ap printed_by (seen-take EVENTS first n script.lines);
       };
-      sees = client-sees seen v (shows-all EVENTS script r h.lines) in_order (subst Stands (sym walked.trace) stands);
+      sees = client-sees seen v shows in_order stand (are-over v.trace ended stand.entries_are_calls (have-ops v.trace.asked shows.apart));
     }

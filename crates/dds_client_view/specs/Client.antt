@@ -1,7 +1,8 @@
 -- What is promised to somebody who only uses the table.
-use Rattle.std.specs.Prelude.{◌≡◌, ◌≤◌, ◌⊎◌, Bool, true, false, ◌&&◌, ◌==◌, List, [], ◌∷◌, Option, Some, None, filter, length}
+use Rattle.std.specs.Prelude.{not, ◌||◌, ◌≡◌, ◌≤◌, ◌⊎◌, Bool, true, false, ◌&&◌, ◌==◌, List, [], ◌∷◌, Option, Some, None, filter, length}
 use Rattle.std.specs.List.{AllByRecursion}
 use Rattle.dds_base.specs.Op.{is_get}
+use Rattle.dds_base.specs.declared.op.Op.{Op}
 use Rattle.dds_base.specs.declared.op.Reply.{Reply}
 use Rattle.dds_base.specs.declared.op.Reply.TheVariants as reply
 use Rattle.dds_history.specs.History.{IsLegal}
@@ -64,28 +65,31 @@ is_refusal (reply.Again met) = true
 is_refusal (reply.Full brick) = true
 is_refusal (reply.Lost name) = false
 
--- a call whose caller was busy has no entry, nor one that was answered Again or Full, nor a get that is still open
-abbrev pub HasNoneBy : SeenCall → Fate → List Entry → Type 0
-HasNoneBy c Busy own = own ≡ []
-HasNoneBy c Open own = is_get c.op ≡ true → own ≡ []
-HasNoneBy c (Answered reply) own = is_refusal reply ≡ true → own ≡ []
-
-abbrev pub HasNone : List SeenLine → List Entry → SeenCall → Type 0
-HasNone seen entries c = HasNoneBy c (fate seen c) (entries_of entries c)
-
 -- the reply says that the update may have been done or not
 abbrev pub is_loss : Reply → Bool
 is_loss (reply.Lost name) = true
 is_loss other = false
 
--- a call that was answered Lost has at most one entry, and so has an update that is still open
-abbrev pub HasAtMostOneBy : SeenCall → Fate → List Entry → Type 0
-HasAtMostOneBy c Busy own = Unit {0}
-HasAtMostOneBy c Open own = is_get c.op ≡ false → length own ≤ 1
-HasAtMostOneBy c (Answered reply) own = is_loss reply ≡ true → length own ≤ 1
+-- nothing was done: the caller was busy, or the call was answered Again or Full, or it is a get that was answered with no result, or is
+-- still open
+abbrev pub did_nothing : Op → Fate → Bool
+did_nothing op Busy = true
+did_nothing op Open = is_get op
+did_nothing op (Answered reply) = is_refusal reply || (is_get op && is_loss reply)
 
+-- then a call has no entry
+abbrev pub HasNone : List SeenLine → List Entry → SeenCall → Type 0
+HasNone seen entries c = did_nothing c.op (fate seen c) ≡ true → entries_of entries c ≡ []
+
+-- an update may have been done or not: it was answered Lost, or is still open
+abbrev pub may_be_done : Op → Fate → Bool
+may_be_done op Busy = false
+may_be_done op Open = not (is_get op)
+may_be_done op (Answered reply) = not (is_get op) && is_loss reply
+
+-- then it has at most one entry
 abbrev pub HasAtMostOne : List SeenLine → List Entry → SeenCall → Type 0
-HasAtMostOne seen entries c = HasAtMostOneBy c (fate seen c) (entries_of entries c)
+HasAtMostOne seen entries c = may_be_done c.op (fate seen c) ≡ true → length (entries_of entries c) ≤ 1
 
 -- an entry is of one of the calls, and has its operation
 abbrev pub IsOfACall : List SeenCall → Entry → Type 0
@@ -97,19 +101,19 @@ abbrev pub StandsFirst : SeenCall → SeenCall → List Entry → Type 0
 StandsFirst c d [] = Unit {0}
 StandsFirst c d (e ∷ entries) = (is_entry_of d e ≡ true → entries_of entries c ≡ []) × StandsFirst c d entries
 
--- where the first call was answered with a result before the line of the second one stood, its entry comes first
+-- where the first call was answered before the line of the second one stood, its entry comes first
 abbrev pub IsOrderedBy : SeenCall → SeenCall → List Entry → Option Reply → Type 0
 IsOrderedBy c d entries None = Unit {0}
-IsOrderedBy c d entries (Some reply) = is_result reply ≡ true → StandsFirst c d entries
+IsOrderedBy c d entries (Some reply) = StandsFirst c d entries
 
 abbrev pub IsOrdered : List Entry → SeenCall → SeenCall → Type 0
 IsOrdered entries c d = IsOrderedBy c d entries (answer_in d.before c)
 
 -- What a script and what it printed show: the calls stand in a list of entries, which is legal for one map from the empty one on. A call
--- that was answered with a result has exactly one entry there, with its operation and that reply; one that was answered Again or
--- Full, one whose caller was busy and a get that is still open have none; one that was answered Lost and an update that is still open have
--- at most one; there are no others. And where a call's result was printed before another call's line stood, its entry comes
--- first. (Of an update that was answered Lost this isn't said.)
+-- that was answered with a result has exactly one entry there, with its operation and that reply. One that was answered Again or
+-- Full, one whose caller was busy and a get that is still open have none. An update that was answered Lost, or is still open, has at
+-- most one. There are no others. And where a call's answer was printed before another call's line stood, its entry, if it has one, comes
+-- first.
 pub record ClientSees (seen : List SeenLine) : Type 0 where
   pub entries : List Entry
   pub legal : IsLegal entries

@@ -1,5 +1,4 @@
 use Rattle.dds_client_view.proofs.Shown.{is-shown}
-use Rattle.dds_client_view.proofs.Ended.{AreEnded}
 use Rattle.dds_client_view.proofs.laws.clients_see_one_history.Goals as goal
 
 pub returns : goal.returns
