@@ -10,7 +10,8 @@ use Rattle.dds_base.specs.declared.number.CallNo.{CallNo}
 use Rattle.dds_base.specs.declared.number.CallerNo.{CallerNo}
 use Rattle.dds_base.specs.declared.op.Op.{Op}
 use Rattle.dds_client_view.proofs.Prints.{IsAside, Prints, prints-line, prints-played}
-use Rattle.dds_client_view.proofs.Shows.{Shows, shows-aside, shows-busy, shows-made}
+use Rattle.dds_client_view.proofs.CallLines.{shows-busy, shows-made}
+use Rattle.dds_client_view.proofs.Shows.{Shows, shows-aside}
 use Rattle.dds_client_view.proofs.Printed.{seen_from}
 use Rattle.dds_client_view.specs.Seen.{SeenLine}
 use Rattle.dds_cluster.specs.Trace.{adds, is_possible, may_call, next}
