@@ -24,7 +24,8 @@ use Rattle.dds_transcript.specs.declared.report_line.ReportLine.{ReportLine}
 use Rattle.dds_transcript.specs.declared.report_line.ReportLine.TheVariants as report
 use Rattle.dds_walk.specs.Walk.{counted, says}
 use Rattle.dds_walk.specs.declared.walk.Walk.{Walk}
-use Rattle.dds_client_view.proofs.Shows.{IsNumbered, IsOld, IsOther, IsUnmade, Shows, made_calls, printed-push, calls-push, lines-same, lines-one, numbered-more, old-more, answers-more, places-more, plain-more}
+use Rattle.dds_client_view.proofs.Shows.{IsNumbered, IsOld, IsOther, IsUnmade, Shows, made_calls}
+use Rattle.dds_client_view.proofs.Shows.{printed-push, calls-push, lines-same, lines-one, numbered-more, old-more, answers-more, places-more, plain-more}
 
 -- a call that has the caller's next number isn't among those so far
 other-call : (a b m n : ℕ) (before : List SeenLine) → m < lines_of a before → n ≡ lines_of b before → (a == b && m == n) ≡ false
@@ -77,7 +78,8 @@ set-other (n ∷ ns) (suc i) (suc j) v h = set-other ns i j v (λ e. h (ap suc e
 not-same : (i j : ℕ) → (i == j) ≡ false → i ≡ j → ⊥
 not-same i j h e = let same : (i == j) ≡ true = grind (arith, nat_tests, e) in let no : true ≡ false = sym same ∙ h in cc
 
-counts-more : (before : List SeenLine) (w : Walk) (caller : ℕ) (s : SeenLine) (op : Op) → s.line ≡ line.Call caller op → Shows before w → caller < length w.counts
+counts-more : (before : List SeenLine) (w : Walk) (caller : ℕ) (s : SeenLine) (op : Op) → s.line ≡ line.Call caller op → Shows before w
+    → caller < length w.counts
     → (c : ℕ) → c < length (counted w caller).counts → slice_index_or (counted w caller).counts c 0 ≡ lines_of c (before ++ s ∷ [])
 counts-more before w caller s op is h there c small =
     let size = length-set w.counts caller (slice_index_or w.counts caller 0 + 1) in
@@ -87,9 +89,11 @@ counts-more before w caller s op is h there c small =
           let at : caller ≡ c = grind (arith, nat_tests, same) in
           let one = lines-one c before s (ap (is_line_of c) is ∙ same) in
           let set = set-same w.counts caller (slice_index_or w.counts caller 0 + 1) there in
-          ap (λ n. slice_index_or (counted w caller).counts n 0) (sym at) ∙ set ∙ ap (λ n. n + 1) (h.counts caller there) ∙ ap (λ n. lines_of n before + 1) at ∙ sym one
+          ap (λ n. slice_index_or (counted w caller).counts n 0) (sym at) ∙ set ∙ ap (λ n. n + 1) (h.counts caller there)
+          ∙ ap (λ n. lines_of n before + 1) at ∙ sym one
       | false ↦ λ other.
-          set-other w.counts caller c (slice_index_or w.counts caller 0 + 1) (not-same caller c other) ∙ old ∙ sym (lines-same c before s (ap (is_line_of c) is ∙ other))
+          set-other w.counts caller c (slice_index_or w.counts caller 0 + 1) (not-same caller c other) ∙ old
+          ∙ sym (lines-same c before s (ap (is_line_of c) is ∙ other))
     ] refl
 
 -- a call line of a caller that is busy
@@ -153,7 +157,8 @@ apart-push : (before : List SeenLine) (asked : List Asked) (a : Asked) → a.cal
 apart-push before [] a e h = tt
 apart-push before (b ∷ asked) a e h = (((λ same number. omega (arith, h.0, e, number, ap (λ n. lines_of n before) same)), tt), apart-push before asked a e h.1)
 
-pub shows-made : (before : List SeenLine) (w v : Walk) (s : SeenLine) (caller : CallerNo) (call : CallNo) (op : Op) (a : Asked) (g : Prints (a ∷ []) (counted w caller) v)
+pub shows-made : (before : List SeenLine) (w v : Walk) (s : SeenLine) (caller : CallerNo) (call : CallNo) (op : Op) (a : Asked)
+    (g : Prints (a ∷ []) (counted w caller) v)
     → s.line ≡ line.Call caller op → s.printed ≡ g.more → a ≡ record { place = w.trace.steps; caller = caller; call = call; op = op }
     → call.0 ≡ lines_of caller before → caller < length w.counts → Shows before w → Shows (before ++ s ∷ []) v
 shows-made before w v s caller call op a g is e a_is number there h =
@@ -191,7 +196,8 @@ shows-made before w v s caller call op a g is e a_is number there h =
       old = subst (λ (l : List Asked). AllByRecursion (IsOld (before ++ s ∷ [])) l) (sym g.asked)
           (all-append (IsOld (before ++ s ∷ [])) w.trace.asked (a ∷ []) (old-more before s w.trace.asked h.old)
           (omega (arith, a_number, one, ap (λ n. lines_of n before) a_caller, ap (λ n. lines_of n (before ++ s ∷ [])) a_caller), tt));
-      apart = subst (Pairwise IsOther) (sym g.asked) (pairs-append IsOther w.trace.asked (a ∷ []) h.apart (tt, tt) (apart-push before w.trace.asked a a_number h.old));
+      apart = subst (Pairwise IsOther) (sym g.asked) (pairs-append IsOther w.trace.asked (a ∷ []) h.apart (tt, tt)
+          (apart-push before w.trace.asked a a_number h.old));
       plain = ap body g.lines ∙ plain-more w.lines g.more h.plain g.plain ∙ sym g.lines;
       made = subst (λ (l : List SeenCall). AreMade v.trace.told l v.trace.asked) (sym made)
           (subst (λ (l : List Asked). AreMade v.trace.told (made_calls (calls_in before) ++ c ∷ []) l) (sym g.asked)
@@ -199,6 +205,7 @@ shows-made before w v s caller call op a g is e a_is number there h =
           (made-later w.trace.told g.later v.trace.told (made_calls (calls_in before)) w.trace.asked g.told h.made) its));
       busy = subst (λ (l : List SeenCall). AllByRecursion (IsUnmade v.trace.asked) l) (sym calls)
           (subst (λ (l : List Asked). AllByRecursion (IsUnmade l) (calls_in before ++ c ∷ [])) (sym g.asked)
-          (all-append (IsUnmade (w.trace.asked ++ a ∷ [])) (calls_in before) (c ∷ []) (unmade-push before w.trace.asked a (calls_in before) a_number h.below h.busy)
+          (all-append (IsUnmade (w.trace.asked ++ a ∷ [])) (calls_in before) (c ∷ [])
+          (unmade-push before w.trace.asked a (calls_in before) a_number h.below h.busy)
           ((λ b. absurd (cc)), tt)));
     }

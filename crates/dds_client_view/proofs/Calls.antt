@@ -45,7 +45,8 @@ call-later told more all c a e g =
       places = g.places;
     }
 
-pub made-later : (told more all : List Told) (calls : List SeenCall) (asked : List Asked) → all ≡ told ++ more → AreMade told calls asked → AreMade all calls asked
+pub made-later : (told more all : List Told) (calls : List SeenCall) (asked : List Asked) → all ≡ told ++ more → AreMade told calls asked
+    → AreMade all calls asked
 made-later told more all [] [] e h = tt
 made-later told more all [] (a ∷ asked) e h = absurd h
 made-later told more all (c ∷ calls) [] e h = absurd h

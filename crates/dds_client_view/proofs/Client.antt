@@ -71,11 +71,13 @@ all-of P [] h = tt
 all-of P (x ∷ xs) h = (h x, all-of P xs h)
 
 -- what is so of calls that were made, and of others, is so of all
-all-parts : (P : SeenCall → Type 0) (cs : List SeenCall) → AllByRecursion (λ c. c.busy ≡ true → P c) cs → AllByRecursion (λ c. (c.busy ≡ false) → P c) (made_calls cs)
+all-parts : (P : SeenCall → Type 0) (cs : List SeenCall) → AllByRecursion (λ c. c.busy ≡ true → P c) cs
+    → AllByRecursion (λ c. (c.busy ≡ false) → P c) (made_calls cs)
     → AllByRecursion P cs
 all-parts P [] h k = tt
 all-parts P (c ∷ cs) h k =
-    elim (c.busy) as (λ b. c.busy ≡ b → AllByRecursion (λ (x : SeenCall). (x.busy ≡ false) → P x) (if not b then c ∷ made_calls cs else made_calls cs) → AllByRecursion P (c ∷ cs)) [
+    elim (c.busy) as (λ b. c.busy ≡ b → AllByRecursion (λ (x : SeenCall). (x.busy ≡ false) → P x) (if not b then c ∷ made_calls cs else made_calls cs)
+    → AllByRecursion P (c ∷ cs)) [
       | true ↦ λ e g. (h.0 e, all-parts P cs h.1 g)
       | false ↦ λ e g. (g.0 e, all-parts P cs h.1 g.1)
     ] refl k
@@ -92,7 +94,8 @@ keeps-all t apart stands over =
     all-map (λ a. (One a × Never a) × ((Most a × HasOp t.asked a) × Over a)) (Keeps t.told ms t.asked) t.asked
     (λ a k. record { answered = k.0.0; refused = k.0.1; unanswered = k.1.0.0; op = k.1.0.1; over = k.1.1 })
     (all-both (λ a. One a × Never a) (λ a. (Most a × HasOp t.asked a) × Over a) t.asked (all-both One Never t.asked stands.answered_once stands.refused_never)
-    (all-both (λ a. Most a × HasOp t.asked a) Over t.asked (all-both Most (HasOp t.asked) t.asked stands.unanswered_once_or_never (have-ops t.asked apart)) over))
+    (all-both (λ a. Most a × HasOp t.asked a) Over t.asked (all-both Most (HasOp t.asked) t.asked stands.unanswered_once_or_never
+    (have-ops t.asked apart)) over))
 
 -- a run that stands, and the lines that made it
 pub client-sees : (seen : List SeenLine) (w : Walk) → Shows seen w → IsInOrder w.trace → Stands w.trace
@@ -111,7 +114,8 @@ client-sees seen w h order stands over =
     all-map (IsUnmade t.asked) (λ c. c.busy ≡ true → client.entries_of entries c ≡ []) calls (λ c k b. none-of c t.asked ms (k b) all) h.busy in
     let behind : (a : Asked) → Keeps t.told ms t.asked a → IsBehind ms a = λ a k.
     is-behind ms a (answer_to t.told a.caller a.call) k.answered k.refused k.unanswered in
-    let fate_is : (c : SeenCall) (a : Asked) → IsCallOf t.told c a → c.busy ≡ false → fate_by false (reply_of (answer_to t.told a.caller a.call)) ≡ client.fate seen c = λ c a g b.
+    let fate_is : (c : SeenCall) (a : Asked) → IsCallOf t.told c a → c.busy ≡ false
+    → fate_by false (reply_of (answer_to t.told a.caller a.call)) ≡ client.fate seen c = λ c a g b.
     ap (fate_by false) (sym (answer-is (printed_by seen) t.told c a printed g.caller g.call)) ∙ ap (λ x. fate_by x (answer_in (printed_by seen) c)) (sym b) in
     let busy_fate : (c : SeenCall) → c.busy ≡ true → client.Busy ≡ client.fate seen c = λ c b. ap (λ x. fate_by x (answer_in (printed_by seen) c)) (sym b) in
     record {

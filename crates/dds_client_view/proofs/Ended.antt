@@ -66,11 +66,12 @@ IsUpdate caller call x = x.caller ≡ caller → x.call ≡ call → is_get x.op
 abbrev pub LosesUpdate : List Asked → ℕ → CallNo → Reply → Type 0
 LosesUpdate asked caller call r = is_loss r ≡ true → AllByRecursion (IsUpdate caller call) asked
 
--- What is so of an answer:
--- | part | why it is needed | which events keep it |
--- | `shut` | no point comes later | an answer closes the call, and its caller makes no call with this number again |
--- | `before` | the claim | what is applied is of an open call |
--- | `lost` | a get isn't answered Lost | a call that commits is an update; a call is asked once |
+-- What is so of an answer.
+--
+-- | part     | why it is needed       | which events keep it                                                               |
+-- | `shut`   | no point comes later   | an answer closes the call, and its caller makes no call with this number again     |
+-- | `before` | the claim              | what is applied is of an open call; the points before an answer have earlier places |
+-- | `lost`   | a get isn't lost       | a call that commits is an update; a call is asked once                             |
 pub record Ends (cs : List Caller) (asked : List Asked) (made : List trace.Made) (r : Told) : Type 0 where
   pub shut : IsShut cs r.caller r.call
   pub before : AllByRecursion (IsEarlier r.place r.caller r.call) made
@@ -130,10 +131,12 @@ module _ (z : Sizes) (few : z.bricks ≤ 64) (some : z.libraries ≤ 16) (h : Hi
 
   -- what is so of each call that an event answers
   abbrev Answered : Event → ℕ → CallNo → Reply → Type 0
-  Answered e i call r = IsUsed (opened_of h.callers e) i call × (LosesUpdate (goes h e).asked i call r × AllByRecursion (IsEarlier h.steps i call) (goes h e).made)
+  Answered e i call r = IsUsed (opened_of h.callers e) i call ×
+      (LosesUpdate (goes h e).asked i call r × AllByRecursion (IsEarlier h.steps i call) (goes h e).made)
 
   -- where an event has no points, all points stand before it
-  all-earlier : (i : ℕ) (call : CallNo) → AllByRecursion (λ (m : trace.Made). m.place < h.steps) h.made → AllByRecursion (IsEarlier h.steps i call) (h.made ++ [])
+  all-earlier : (i : ℕ) (call : CallNo) → AllByRecursion (λ (m : trace.Made). m.place < h.steps) h.made
+      → AllByRecursion (IsEarlier h.steps i call) (h.made ++ [])
   all-earlier i call places =
       all-append (IsEarlier h.steps i call) h.made []
       (all-map (λ (m : trace.Made). m.place < h.steps) (IsEarlier h.steps i call) h.made (λ m p update e f. p) places) tt

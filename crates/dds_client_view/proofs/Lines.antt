@@ -93,7 +93,8 @@ shows-called o before w caller op c false g e is there h =
     let low : c.least ≤ slice_index_or w.counts caller 0 = counted-get w.trace.callers w.counts caller c g.counted e in
     let possible : is_possible w.trace s ≡ true = ap (λ x. may_call x c.library call) e ∙ call-possible c call is low in
     let p = prints-played (a ∷ []) u s g.rest (asked-one w.trace s (a ∷ []) possible refl) in (
-      shows-made before w v (seen_between (line.Call caller op) w v) caller call op a p refl (printed-is w v p.more p.lines) refl (h.counts caller there) there h,
+      shows-made before w v (seen_between (line.Call caller op) w v) caller call op a p refl (printed-is w v p.more p.lines) refl
+          (h.counts caller there) there h,
       ap length p.counts ∙ length-set w.counts caller _,
     )
 

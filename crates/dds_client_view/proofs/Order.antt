@@ -57,7 +57,8 @@ post-at : (w : World) (place : ℕ) (node : ℕ) (ms : List Message) → AllByRe
 post-at w place node [] = tt
 post-at w place node (m ∷ ms) = tt
 
-call-at : (w : World) (place : ℕ) (node caller : ℕ) (call : _) (o : Op) (s : Option LibraryState) → AllByRecursion (IsAt place) (call_at w node caller call o s).made
+call-at : (w : World) (place : ℕ) (node caller : ℕ) (call : _) (o : Op) (s : Option LibraryState)
+    → AllByRecursion (IsAt place) (call_at w node caller call o s).made
 call-at w place node caller call o None = tt
 call-at w place node caller call o (Some s) = tt
 

@@ -65,7 +65,8 @@ none-behind : (p : Made → Bool) (at from : ℕ) (ms : List Made) → from < at
     → AllByRecursion (λ m. m.place < from) (filter p ms) → filter p ms ≡ []
 none-behind p at from [] less late h = refl
 none-behind p at from (m ∷ ms) less late h =
-    elim (p m) as (λ b. AllByRecursion (λ (x : Made). x.place < from) (if b then m ∷ filter p ms else filter p ms) → (if b then m ∷ filter p ms else filter p ms) ≡ []) [
+    elim (p m) as (λ b. AllByRecursion (λ (x : Made). x.place < from) (if b then m ∷ filter p ms else filter p ms)
+    → (if b then m ∷ filter p ms else filter p ms) ≡ []) [
       | true ↦ λ k. absurd (omega (arith, less, late.0, k.0))
       | false ↦ λ k. none-behind p at from ms less late.1 k
     ] h
@@ -87,7 +88,8 @@ is_of c m = is_entry_of c m.entry
 filter-in : (c : SeenCall) (ms : List Made) → client.entries_of (map entry_in ms) c ≡ map entry_in (filter (is_of c) ms)
 filter-in c [] = refl
 filter-in c (m ∷ ms) =
-    elim (is_of c m) as (λ b. (if b then m.entry ∷ client.entries_of (map entry_in ms) c else client.entries_of (map entry_in ms) c) ≡ map entry_in (if b then m ∷ filter (is_of c) ms else filter (is_of c) ms)) [
+    elim (is_of c m) as (λ b. (if b then m.entry ∷ client.entries_of (map entry_in ms) c else client.entries_of (map entry_in ms) c) ≡ map entry_in
+    (if b then m ∷ filter (is_of c) ms else filter (is_of c) ms)) [
       | true ↦ ap (λ (l : List Entry). m.entry ∷ l) (filter-in c ms)
       | false ↦ filter-in c ms
     ]
@@ -125,7 +127,8 @@ pub none-last : (c d : SeenCall) (entries : List Entry) → client.entries_of en
 none-last c d [] h = tt
 none-last c d (e ∷ entries) h =
     elim (is_entry_of d e)
-    as (λ b. (if b then e ∷ client.entries_of entries d else client.entries_of entries d) ≡ [] → (b ≡ true → client.entries_of entries c ≡ []) × StandsFirst c d entries) [
+    as (λ b. (if b then e ∷ client.entries_of entries d else client.entries_of entries d) ≡ []
+    → (b ≡ true → client.entries_of entries c ≡ []) × StandsFirst c d entries) [
       | true ↦ λ k. absurd (cc)
       | false ↦ λ k. ((λ is. absurd (cc)), none-last c d entries k)
     ] h

@@ -39,8 +39,8 @@ use Rattle.dds_walk.proofs.Moves.{moves-over, moves-suc}
 use Rattle.dds_walk.proofs.Picked.{AreSteps, steps-append, steps-first, steps-picked}
 use Rattle.dds_walk.proofs.Walked.{tries-alone}
 use Rattle.dds_walk.specs.Picking.{all_handles, begun, events, first_of, handles, node_at, posts}
-use Rattle.dds_walk.specs.Walk.{Moved, after_event, event, event_by, has_event, kind_at, leaf_line, leaf_lines, left, left_of, line_done, moves, node_of, on_event}
-use Rattle.dds_walk.specs.Walk.{or_stays, picked_in, picks_in, played, reply_line, reply_lines, says, show_lines, tries}
+use Rattle.dds_walk.specs.Walk.{Moved, after_event, event, event_by, has_event, kind_at, leaf_line, leaf_lines, left, left_of, line_done}
+use Rattle.dds_walk.specs.Walk.{moves, node_of, on_event, or_stays, picked_in, picks_in, played, reply_line, reply_lines, says, show_lines, tries}
 use Rattle.dds_walk.specs.declared.walk.Walk.{Walk}
 
 -- from one walk to a later one: what is printed on the way, and what is told; these calls are made
@@ -259,7 +259,8 @@ prints-brick : (w : Walk) (brick : NodeNo) (s : BrickState) (stopped : Bool) →
     → Prints [] w (record w { lines = w.lines ++ show_lines brick (Some s) })
 prints-brick w brick s true none e =
     prints-lines w _ (report.BrickStopped brick ∷ []) none refl refl refl
-    (ap (λ (b : Bool). w.lines ++ (if b then report.BrickStopped brick ∷ [] else report.BrickUp brick (length s.locks.pending) ∷ leaf_lines s.pairs brick (leaves_of s.leaves))) e)
+    (ap (λ (b : Bool). w.lines ++ (if b then report.BrickStopped brick ∷ [] else report.BrickUp brick (length s.locks.pending) ∷ leaf_lines s.pairs brick
+    (leaves_of s.leaves))) e)
     refl refl refl
 prints-brick w brick s false none e =
     let ls = leaf_lines s.pairs brick (leaves_of s.leaves) in

@@ -30,12 +30,14 @@ entry_in m = m.entry
 filter-map : {A B : Type 0} (p : B → Bool) (f : A → B) (xs : List A) → filter p (map f xs) ≡ map f (filter (λ x. p (f x)) xs)
 filter-map p f [] = refl
 filter-map p f (x ∷ xs) =
-    elim (p (f x)) as (λ b. (if b then f x ∷ filter p (map f xs) else filter p (map f xs)) ≡ map f (if b then x ∷ filter (λ y. p (f y)) xs else filter (λ y. p (f y)) xs)) [
+    elim (p (f x)) as (λ b. (if b then f x ∷ filter p (map f xs) else filter p (map f xs)) ≡ map f
+    (if b then x ∷ filter (λ y. p (f y)) xs else filter (λ y. p (f y)) xs)) [
       | true ↦ ap (λ l. f x ∷ l) (filter-map p f xs)
       | false ↦ filter-map p f xs
     ]
 
-pub all-mapped : {A B : Type 0} (P : A → Type 0) (Q : B → Type 0) (f : A → B) (xs : List A) → ((x : A) → P x → Q (f x)) → AllByRecursion P xs → AllByRecursion Q (map f xs)
+pub all-mapped : {A B : Type 0} (P : A → Type 0) (Q : B → Type 0) (f : A → B) (xs : List A) → ((x : A) → P x → Q (f x)) → AllByRecursion P xs
+    → AllByRecursion Q (map f xs)
 all-mapped P Q f [] h k = tt
 all-mapped P Q f (x ∷ xs) h k = (h x k.0, all-mapped P Q f xs h k.1)
 
@@ -66,7 +68,8 @@ reply_of (Some r) = Some r.reply
 first-told : (rs : List Told) (caller : ℕ) (call : CallNo) → first_answer (map told_answer rs) caller call ≡ reply_of (answer_to rs caller call)
 first-told [] caller call = refl
 first-told (r ∷ rs) caller call =
-    elim (r.caller == caller && r.call.0 == call.0) as (λ b. (if b then Some r.reply else first_answer (map told_answer rs) caller call) ≡ reply_of (if b then Some r else answer_to rs caller call)) [
+    elim (r.caller == caller && r.call.0 == call.0) as (λ b. (if b then Some r.reply else first_answer (map told_answer rs) caller call) ≡ reply_of
+    (if b then Some r else answer_to rs caller call)) [
       | true ↦ refl
       | false ↦ first-told rs caller call
     ]
@@ -83,7 +86,8 @@ answer-is lines rs c a e f g =
 pub answer-first : (xs ys : List Told) (caller : ℕ) (call : CallNo) (r : Told) → answer_to xs caller call ≡ Some r → answer_to (xs ++ ys) caller call ≡ Some r
 answer-first [] ys caller call r e = absurd (cc)
 answer-first (x ∷ xs) ys caller call r e =
-    elim (answers caller call x) as (λ b. (if b then Some x else answer_to xs caller call) ≡ Some r → (if b then Some x else answer_to (xs ++ ys) caller call) ≡ Some r) [
+    elim (answers caller call x) as (λ b. (if b then Some x else answer_to xs caller call) ≡ Some r
+    → (if b then Some x else answer_to (xs ++ ys) caller call) ≡ Some r) [
       | true ↦ λ k. k
       | false ↦ λ k. answer-first xs ys caller call r k
     ] e
@@ -114,17 +118,20 @@ answer-own (x ∷ xs) caller call r e =
 abbrev pub HasOp : List Asked → Asked → Type 0
 HasOp asked a = (m : Made) → IsOfACall asked m → m.entry.caller ≡ a.caller → m.entry.call ≡ a.call → m.entry.op ≡ a.op
 
-is-other : (a : Asked) (asked : List Asked) (m : Made) → AllByRecursion (IsOther a) asked → IsOfACall asked m → m.entry.caller ≡ a.caller → m.entry.call ≡ a.call → ⊥
+is-other : (a : Asked) (asked : List Asked) (m : Made) → AllByRecursion (IsOther a) asked → IsOfACall asked m → m.entry.caller ≡ a.caller
+    → m.entry.call ≡ a.call → ⊥
 is-other a [] m h k e f = k
 is-other a (b ∷ asked) m h (inl k) e f = h.0 (sym e ∙ k.0) (ap (λ (n : CallNo). n.0) (sym f ∙ k.1))
 is-other a (b ∷ asked) m h (inr k) e f = is-other a asked m h.1 k e f
 
-op-first : (a : Asked) (asked : List Asked) (m : Made) → AllByRecursion (IsOther a) asked → IsOfACall (a ∷ asked) m → m.entry.caller ≡ a.caller → m.entry.call ≡ a.call
+op-first : (a : Asked) (asked : List Asked) (m : Made) → AllByRecursion (IsOther a) asked → IsOfACall (a ∷ asked) m → m.entry.caller ≡ a.caller
+    → m.entry.call ≡ a.call
     → m.entry.op ≡ a.op
 op-first a asked m h (inl k) e f = k.2
 op-first a asked m h (inr k) e f = absurd (is-other a asked m h k e f)
 
-op-later : (a b : Asked) (asked : List Asked) (m : Made) → IsOther a b → HasOp asked b → IsOfACall (a ∷ asked) m → m.entry.caller ≡ b.caller → m.entry.call ≡ b.call
+op-later : (a b : Asked) (asked : List Asked) (m : Made) → IsOther a b → HasOp asked b → IsOfACall (a ∷ asked) m → m.entry.caller ≡ b.caller
+    → m.entry.call ≡ b.call
     → m.entry.op ≡ b.op
 op-later a b asked m h k (inl i) e f = absurd (h (sym i.0 ∙ e) (ap (λ (n : CallNo). n.0) (sym i.1 ∙ f)))
 op-later a b asked m h k (inr i) e f = k m i e f
@@ -195,8 +202,10 @@ the-entry c a r m e f g p q s t =
 one-there : (P : Made → Type 0) (xs : List Made) (m : Made) → xs ≡ m ∷ [] → AllByRecursion P xs → P m
 one-there P xs m e h = (subst (AllByRecursion P) e h).0
 
-pub has-one : (told : List Told) (ms : List Made) (asked : List Asked) (c : SeenCall) (a : Asked) (t : Option Told) → a.caller ≡ c.caller → a.call ≡ c.call → a.op ≡ c.op
-    → AllByRecursion (IsOfACall asked) ms → HasOp asked a → AnsweredOnceBy ms a t → HasOneBy c (fate_by false (reply_of t)) (client.entries_of (map entry_in ms) c)
+pub has-one : (told : List Told) (ms : List Made) (asked : List Asked) (c : SeenCall) (a : Asked) (t : Option Told) → a.caller ≡ c.caller → a.call ≡ c.call
+    → a.op ≡ c.op
+    → AllByRecursion (IsOfACall asked) ms → HasOp asked a → AnsweredOnceBy ms a t
+    → HasOneBy c (fate_by false (reply_of t)) (client.entries_of (map entry_in ms) c)
 has-one told ms asked c a None e f g all op h = tt
 has-one told ms asked c a (Some r) e f g all op h = λ result.
     let one = h (sym (result-same r.reply) ∙ result) in

@@ -39,12 +39,18 @@ IsOld before a = a.call.0 < lines_of a.caller before
 abbrev pub IsOther : Asked → Asked → Type 0
 IsOther a b = a.caller ≡ b.caller → a.call.0 ≡ b.call.0 → ⊥
 
--- Lines that a walk has behind it, with what they printed, and the run that they made:
--- | part | why |
--- | printed, answers, places | what was printed are the answers that were given, all at earlier places |
--- | counts, below, old, apart | a call's number is how many call lines its caller had, and each call so far has a smaller one, none another's |
--- | plain | none of the last lines of a transcript is printed yet |
--- | made, busy | the calls of the run are those of the lines whose callers weren't busy, each with what was printed before it |
+-- Lines that a walk has behind it, with what they printed, and the run that they made. Each line keeps all of it: one that is no call line
+-- by what it prints and is told (`Prints`), a call line where the caller is busy (`shows-busy`) or the call is made (`shows-made`).
+--
+-- | part                        | why it is needed                                                                               |
+-- | `printed`                   | the transcript is what the lines printed                                                       |
+-- | `answers`, `places`         | what they say of answers are those that were given, at earlier places                          |
+-- | `counts`                    | a call's number is how many call lines its caller had                                          |
+-- | `below`, `old`, `apart`     | each call so far has a smaller number than its caller's next one, and none has another's       |
+-- | `plain`                     | none of the last lines of a transcript is printed yet                                          |
+-- | `made`                      | the run's calls are those of the lines whose callers weren't busy, each with what was printed  |
+-- |                             | before its line                                                                                |
+-- | `busy`                      | a call whose caller was busy was never made                                                    |
 pub record Shows (before : List SeenLine) (w : Walk) : Type 0 where
   pub printed : printed_by before ≡ w.lines
   pub answers : answers_in w.lines ≡ map told_answer w.trace.told
@@ -81,12 +87,14 @@ lines-more : (caller : ℕ) (before : List SeenLine) (s : SeenLine) → lines_of
 lines-more caller before s = omega (arith, lines-push caller before s)
 
 -- a line that is none of the caller's call lines
-pub lines-same : (caller : ℕ) (before : List SeenLine) (s : SeenLine) → is_line_of caller s.line ≡ false → lines_of caller (before ++ s ∷ []) ≡ lines_of caller before
+pub lines-same : (caller : ℕ) (before : List SeenLine) (s : SeenLine) → is_line_of caller s.line ≡ false
+    → lines_of caller (before ++ s ∷ []) ≡ lines_of caller before
 lines-same caller before s e =
     let none : length (if is_line_of caller s.line then s ∷ [] else []) ≡ 0 = ap (λ (b : Bool). length (if b then s ∷ [] else [])) e in
     omega (arith, lines-push caller before s, none)
 
-pub lines-one : (caller : ℕ) (before : List SeenLine) (s : SeenLine) → is_line_of caller s.line ≡ true → lines_of caller (before ++ s ∷ []) ≡ lines_of caller before + 1
+pub lines-one : (caller : ℕ) (before : List SeenLine) (s : SeenLine) → is_line_of caller s.line ≡ true
+    → lines_of caller (before ++ s ∷ []) ≡ lines_of caller before + 1
 lines-one caller before s e =
     let one : length (if is_line_of caller s.line then s ∷ [] else []) ≡ 1 = ap (λ (b : Bool). length (if b then s ∷ [] else [])) e in
     omega (arith, lines-push caller before s, one)
@@ -96,7 +104,8 @@ pub numbered-more : (before : List SeenLine) (s : SeenLine) (cs : List SeenCall)
 numbered-more before s cs h =
     all-map (IsNumbered before) (IsNumbered (before ++ s ∷ [])) cs (λ c k. omega (arith, k, lines-more c.caller before s)) h
 
-pub old-more : (before : List SeenLine) (s : SeenLine) (asked : List Asked) → AllByRecursion (IsOld before) asked → AllByRecursion (IsOld (before ++ s ∷ [])) asked
+pub old-more : (before : List SeenLine) (s : SeenLine) (asked : List Asked) → AllByRecursion (IsOld before) asked
+    → AllByRecursion (IsOld (before ++ s ∷ [])) asked
 old-more before s asked h = all-map (IsOld before) (IsOld (before ++ s ∷ [])) asked (λ a k. omega (arith, k, lines-more a.caller before s)) h
 
 -- all answers so far
