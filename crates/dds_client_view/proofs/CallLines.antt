@@ -1,0 +1,211 @@
+-- A call line more.
+use Rattle.std.proofs.Common.{◌≡◌, ℕ, ◌+◌, ◌<◌, Bool, true, false, List, [], ◌∷◌, ◌++◌, zero, suc, refl}
+use Rattle.std.proofs.Common.{sym, ap, subst, ◌∙◌, arith, length}
+use Rattle.std.specs.Prelude.{not, ◌&&◌, ◌||◌, ◌==◌, slice_index_or, slice_set}
+use Rattle.std.specs.List.{AllByRecursion, list_any}
+use Rattle.std.proofs.lemmas.Bool.Decides.{nat_tests}
+use Rattle.std.proofs.lemmas.Grind.{flat_map-append}
+use Rattle.std.proofs.lemmas.List.{append-nil, length-set}
+use Rattle.std.proofs.lemmas.List.Elements.{filter-append}
+use Rattle.dds_base.specs.declared.number.CallNo.{CallNo}
+use Rattle.dds_base.specs.declared.number.CallerNo.{CallerNo}
+use Rattle.dds_base.specs.declared.op.Op.{Op}
+use Rattle.dds_client_view.proofs.Calls.{AreMade, IsBefore, IsCallOf, made-later, made-push}
+use Rattle.dds_client_view.proofs.Prints.{Prints}
+use Rattle.dds_client_view.specs.Law.{body}
+use Rattle.dds_client_view.specs.Seen.{SeenCall, SeenLine, answer_on, answers_in, call_of, calls_in, is_busy, is_line_of, lines_of, printed_by}
+use Rattle.dds_cluster.specs.Lists.{is_asked, is_call_of}
+use Rattle.dds_cluster.specs.declared.trace.Asked.{Asked}
+use Rattle.dds_cluster.specs.declared.trace.Told.{Told}
+use Rattle.dds_core.proofs.Lists.{all-append}
+use Rattle.dds_net.proofs.Pairwise.{Pairwise, pairs-append}
+use Rattle.dds_script.specs.declared.line.Line.TheVariants as line
+use Rattle.dds_transcript.specs.declared.report_line.ReportLine.{ReportLine}
+use Rattle.dds_transcript.specs.declared.report_line.ReportLine.TheVariants as report
+use Rattle.dds_walk.specs.Walk.{counted, says}
+use Rattle.dds_walk.specs.declared.walk.Walk.{Walk}
+use Rattle.dds_client_view.proofs.Shows.{IsNumbered, IsOld, IsOther, IsUnmade, Shows, made_calls}
+use Rattle.dds_client_view.proofs.Shows.{printed-push, calls-push, lines-same, lines-one, numbered-more, old-more, answers-more, places-more, plain-more}
+
+-- a call that has the caller's next number isn't among those so far
+other-call : (a b m n : ℕ) (before : List SeenLine) → m < lines_of a before → n ≡ lines_of b before → (a == b && m == n) ≡ false
+other-call a b m n before h e = elim (a == b) as (λ c. (a == b) ≡ c → (c && m == n) ≡ false) [
+  | true ↦ λ same.
+      let at : a ≡ b = grind (arith, nat_tests, same) in
+      let less : m < n = omega (arith, h, e, ap (λ i. lines_of i before) at) in
+      grind (arith, nat_tests, less)
+  | false ↦ λ same. refl
+] refl
+
+not-asked : (before : List SeenLine) (caller : ℕ) (call : CallNo) (asked : List Asked) → call.0 ≡ lines_of caller before → AllByRecursion (IsOld before) asked
+    → is_asked asked caller call ≡ false
+not-asked before caller call [] e h = refl
+not-asked before caller call (a ∷ asked) e h =
+    ap (λ b. b || is_asked asked caller call) (other-call a.caller caller a.call.0 call.0 before h.0 e) ∙ not-asked before caller call asked e h.1
+
+asked-push : (asked : List Asked) (a : Asked) (caller : ℕ) (call : CallNo) → is_asked asked caller call ≡ false → is_call_of caller call a ≡ false
+    → is_asked (asked ++ a ∷ []) caller call ≡ false
+asked-push [] a caller call h k = ap (λ b. b || false) k
+asked-push (b ∷ asked) a caller call h k =
+    elim (is_call_of caller call b) as (λ x. (x || is_asked asked caller call) ≡ false → (x || is_asked (asked ++ a ∷ []) caller call) ≡ false) [
+      | true ↦ λ e. absurd (cc)
+      | false ↦ λ e. asked-push asked a caller call e k
+    ] h
+
+-- the new call has the number that none of the former ones has
+new-call : (caller b m n : ℕ) (before : List SeenLine) → m ≡ lines_of caller before → n < lines_of b before → (caller == b && m == n) ≡ false
+new-call caller b m n before e h = elim (caller == b) as (λ c. (caller == b) ≡ c → (c && m == n) ≡ false) [
+  | true ↦ λ same.
+      let at : caller ≡ b = grind (arith, nat_tests, same) in
+      let less : n < m = omega (arith, h, e, ap (λ i. lines_of i before) at) in
+      grind (arith, nat_tests, less)
+  | false ↦ λ same. refl
+] refl
+
+-- the counts behind a call line
+set-same : (ns : List ℕ) (i v : ℕ) → i < length ns → slice_index_or (slice_set ns i v) i 0 ≡ v
+set-same [] i v h = omega (arith, h)
+set-same (n ∷ ns) zero v h = refl
+set-same (n ∷ ns) (suc i) v h = set-same ns i v (omega (arith, h))
+
+set-other : (ns : List ℕ) (i j v : ℕ) → (i ≡ j → ⊥) → slice_index_or (slice_set ns i v) j 0 ≡ slice_index_or ns j 0
+set-other [] i j v h = refl
+set-other (n ∷ ns) zero zero v h = absurd (h refl)
+set-other (n ∷ ns) zero (suc j) v h = refl
+set-other (n ∷ ns) (suc i) zero v h = refl
+set-other (n ∷ ns) (suc i) (suc j) v h = set-other ns i j v (λ e. h (ap suc e))
+
+not-same : (i j : ℕ) → (i == j) ≡ false → i ≡ j → ⊥
+not-same i j h e = let same : (i == j) ≡ true = grind (arith, nat_tests, e) in let no : true ≡ false = sym same ∙ h in cc
+
+counts-more : (before : List SeenLine) (w : Walk) (caller : ℕ) (s : SeenLine) (op : Op) → s.line ≡ line.Call caller op → Shows before w
+    → caller < length w.counts
+    → (c : ℕ) → c < length (counted w caller).counts → slice_index_or (counted w caller).counts c 0 ≡ lines_of c (before ++ s ∷ [])
+counts-more before w caller s op is h there c small =
+    let size = length-set w.counts caller (slice_index_or w.counts caller 0 + 1) in
+    let old = h.counts c (omega (arith, small, size)) in
+    elim (caller == c) as (λ b. (caller == c) ≡ b → slice_index_or (counted w caller).counts c 0 ≡ lines_of c (before ++ s ∷ [])) [
+      | true ↦ λ same.
+          let at : caller ≡ c = grind (arith, nat_tests, same) in
+          let one = lines-one c before s (ap (is_line_of c) is ∙ same) in
+          let set = set-same w.counts caller (slice_index_or w.counts caller 0 + 1) there in
+          ap (λ n. slice_index_or (counted w caller).counts n 0) (sym at) ∙ set ∙ ap (λ n. n + 1) (h.counts caller there)
+          ∙ ap (λ n. lines_of n before + 1) at ∙ sym one
+      | false ↦ λ other.
+          set-other w.counts caller c (slice_index_or w.counts caller 0 + 1) (not-same caller c other) ∙ old
+          ∙ sym (lines-same c before s (ap (is_line_of c) is ∙ other))
+    ] refl
+
+-- a call line of a caller that is busy
+abbrev seen_call : List SeenLine → List ReportLine → CallerNo → Op → Bool → SeenCall
+seen_call before printed caller op busy =
+    record { caller = caller; call = record { 0 = lines_of caller before }; op = op; busy = busy; before = printed_by before }
+
+call-is : (before : List SeenLine) (s : SeenLine) (caller : CallerNo) (op : Op) (busy : Bool) → s.line ≡ line.Call caller op → list_any is_busy s.printed ≡ busy
+    → call_of before s.printed s.line ≡ seen_call before s.printed caller op busy ∷ []
+call-is before s caller op busy e b =
+    ap (call_of before s.printed) e ∙ ap (λ (x : Bool). seen_call before s.printed caller op x ∷ []) b
+
+below-push : (before : List SeenLine) (s : SeenLine) (caller : CallerNo) (op : Op) (busy : Bool) → s.line ≡ line.Call caller op
+    → AllByRecursion (IsNumbered before) (calls_in before)
+    → AllByRecursion (IsNumbered (before ++ s ∷ [])) (calls_in before ++ seen_call before s.printed caller op busy ∷ [])
+below-push before s caller op busy e h =
+    let same : (caller == caller) ≡ true = grind (arith, nat_tests) in
+    let one = lines-one caller before s (ap (is_line_of caller) e ∙ same) in
+    all-append (IsNumbered (before ++ s ∷ [])) (calls_in before) (seen_call before s.printed caller op busy ∷ []) (numbered-more before s (calls_in before) h)
+    (omega (arith, one), tt)
+
+pub shows-busy : (before : List SeenLine) (w v : Walk) (s : SeenLine) (caller : CallerNo) (call : CallNo) (op : Op) → s.line ≡ line.Call caller op
+    → s.printed ≡ report.Busy caller call ∷ [] → v ≡ says (counted w caller) (report.Busy caller call) → caller < length w.counts → Shows before w
+    → Shows (before ++ s ∷ []) v
+shows-busy before w v s caller call op is e v_is there h =
+    let c = seen_call before s.printed caller op true in
+    let busy : list_any is_busy s.printed ≡ true = ap (list_any is_busy) e in
+    let calls : calls_in (before ++ s ∷ []) ≡ calls_in before ++ c ∷ [] =
+    calls-push [] before s ∙ ap (λ (l : List SeenCall). calls_in before ++ l) (call-is before s caller op true is busy) in
+    let made : made_calls (calls_in (before ++ s ∷ [])) ≡ made_calls (calls_in before) =
+    ap made_calls calls ∙ filter-append (λ (x : SeenCall). not x.busy) (calls_in before) (c ∷ []) ∙ append-nil (made_calls (calls_in before)) in
+    let u = says (counted w caller) (report.Busy caller call) in
+    let shown : Shows (before ++ s ∷ []) u =
+    record {
+      printed = printed-push before s ∙ ap (λ (l : List ReportLine). l ++ s.printed) h.printed ∙ ap (λ (l : List ReportLine). w.lines ++ l) e;
+      answers = flat_map-append answer_on w.lines (report.Busy caller call ∷ []) ∙ append-nil (answers_in w.lines) ∙ h.answers;
+      places = h.places;
+      counts = counts-more before w caller s op is h there;
+      below = subst (λ (l : List SeenCall). AllByRecursion (IsNumbered (before ++ s ∷ [])) l) (sym calls) (below-push before s caller op true is h.below);
+      old = old-more before s w.trace.asked h.old;
+      apart = h.apart;
+      plain = plain-more w.lines (report.Busy caller call ∷ []) h.plain refl;
+      made = subst (λ (l : List SeenCall). AreMade w.trace.told l w.trace.asked) (sym made) h.made;
+      busy = subst (λ (l : List SeenCall). AllByRecursion (IsUnmade w.trace.asked) l) (sym calls)
+          (all-append (IsUnmade w.trace.asked) (calls_in before) (c ∷ []) h.busy
+          ((λ b. not-asked before caller c.call w.trace.asked refl h.old), tt));
+    } in
+    subst (Shows (before ++ s ∷ [])) (sym v_is) shown
+
+-- one of a caller that isn't
+unmade-push : (before : List SeenLine) (asked : List Asked) (a : Asked) (cs : List SeenCall) → a.call.0 ≡ lines_of a.caller before
+    → AllByRecursion (IsNumbered before) cs → AllByRecursion (IsUnmade asked) cs → AllByRecursion (IsUnmade (asked ++ a ∷ [])) cs
+unmade-push before asked a [] e n h = tt
+unmade-push before asked a (c ∷ cs) e n h = (
+  (λ b. asked-push asked a c.caller c.call (h.0 b) (new-call a.caller c.caller a.call.0 c.call.0 before e n.0)),
+  unmade-push before asked a cs e n.1 h.1,
+)
+
+apart-push : (before : List SeenLine) (asked : List Asked) (a : Asked) → a.call.0 ≡ lines_of a.caller before → AllByRecursion (IsOld before) asked
+    → AllByRecursion (λ b. AllByRecursion (IsOther b) (a ∷ [])) asked
+apart-push before [] a e h = tt
+apart-push before (b ∷ asked) a e h = (((λ same number. omega (arith, h.0, e, number, ap (λ n. lines_of n before) same)), tt), apart-push before asked a e h.1)
+
+pub shows-made : (before : List SeenLine) (w v : Walk) (s : SeenLine) (caller : CallerNo) (call : CallNo) (op : Op) (a : Asked)
+    (g : Prints (a ∷ []) (counted w caller) v)
+    → s.line ≡ line.Call caller op → s.printed ≡ g.more → a ≡ record { place = w.trace.steps; caller = caller; call = call; op = op }
+    → call.0 ≡ lines_of caller before → caller < length w.counts → Shows before w → Shows (before ++ s ∷ []) v
+shows-made before w v s caller call op a g is e a_is number there h =
+    let c = seen_call before s.printed caller op false in
+    let free : list_any is_busy s.printed ≡ false = ap (list_any is_busy) e ∙ g.free in
+    let calls : calls_in (before ++ s ∷ []) ≡ calls_in before ++ c ∷ [] =
+    calls-push [] before s ∙ ap (λ (l : List SeenCall). calls_in before ++ l) (call-is before s caller op false is free) in
+    let made : made_calls (calls_in (before ++ s ∷ [])) ≡ made_calls (calls_in before) ++ c ∷ [] =
+    ap made_calls calls ∙ filter-append (λ (x : SeenCall). not x.busy) (calls_in before) (c ∷ []) in
+    let same : (caller == caller) ≡ true = grind (arith, nat_tests) in
+    let one = lines-one caller before s (ap (is_line_of caller) is ∙ same) in
+    let a_caller : a.caller ≡ caller = ap (λ (x : Asked). x.caller) a_is in
+    let a_call : a.call ≡ call = ap (λ (x : Asked). x.call) a_is in
+    let a_number : a.call.0 ≡ lines_of a.caller before = ap (λ (x : CallNo). x.0) a_call ∙ number ∙ ap (λ n. lines_of n before) (sym a_caller) in
+    let its : IsCallOf v.trace.told c a =
+    record {
+      caller = a_caller;
+      call = a_call ∙ ap (λ n. record { 0 = n }) number;
+      op = ap (λ (x : Asked). x.op) a_is;
+      first = w.trace.told;
+      later = g.later;
+      whole = g.told;
+      printed = ap answers_in h.printed ∙ h.answers;
+      places = subst (λ n. AllByRecursion (IsBefore n) w.trace.told) (sym (ap (λ (x : Asked). x.place) a_is)) h.places;
+    } in
+    record {
+      printed = printed-push before s ∙ ap (λ (l : List ReportLine). l ++ s.printed) h.printed ∙ ap (λ (l : List ReportLine). w.lines ++ l) e ∙ sym g.lines;
+      answers = answers-more w v g.more g.later g.lines g.told h.answers g.same;
+      places = subst (λ (l : List Told). AllByRecursion (IsBefore v.trace.steps) l) (sym g.told)
+          (places-more w.trace.steps v.trace.steps w.trace.told g.later g.steps h.places g.places);
+      counts = λ x small.
+          ap (λ (l : List ℕ). slice_index_or l x 0) g.counts
+          ∙ counts-more before w caller s op is h there x (subst (λ (l : List ℕ). x < length l) g.counts small);
+      below = subst (λ (l : List SeenCall). AllByRecursion (IsNumbered (before ++ s ∷ [])) l) (sym calls) (below-push before s caller op false is h.below);
+      old = subst (λ (l : List Asked). AllByRecursion (IsOld (before ++ s ∷ [])) l) (sym g.asked)
+          (all-append (IsOld (before ++ s ∷ [])) w.trace.asked (a ∷ []) (old-more before s w.trace.asked h.old)
+          (omega (arith, a_number, one, ap (λ n. lines_of n before) a_caller, ap (λ n. lines_of n (before ++ s ∷ [])) a_caller), tt));
+      apart = subst (Pairwise IsOther) (sym g.asked) (pairs-append IsOther w.trace.asked (a ∷ []) h.apart (tt, tt)
+          (apart-push before w.trace.asked a a_number h.old));
+      plain = ap body g.lines ∙ plain-more w.lines g.more h.plain g.plain ∙ sym g.lines;
+      made = subst (λ (l : List SeenCall). AreMade v.trace.told l v.trace.asked) (sym made)
+          (subst (λ (l : List Asked). AreMade v.trace.told (made_calls (calls_in before) ++ c ∷ []) l) (sym g.asked)
+          (made-push v.trace.told (made_calls (calls_in before)) w.trace.asked c a
+          (made-later w.trace.told g.later v.trace.told (made_calls (calls_in before)) w.trace.asked g.told h.made) its));
+      busy = subst (λ (l : List SeenCall). AllByRecursion (IsUnmade v.trace.asked) l) (sym calls)
+          (subst (λ (l : List Asked). AllByRecursion (IsUnmade l) (calls_in before ++ c ∷ [])) (sym g.asked)
+          (all-append (IsUnmade (w.trace.asked ++ a ∷ [])) (calls_in before) (c ∷ [])
+          (unmade-push before w.trace.asked a (calls_in before) a_number h.below h.busy)
+          ((λ b. absurd (cc)), tt)));
+    }
