@@ -4,6 +4,7 @@ use Rattle.dds_base.specs.Outside.{Added, AddedPart, Rose, TookPast, TookWithin}
 use Rattle.dds_script.specs.Grammar.{Accepts, IsFirstFault}
 use Rattle.dds_script.specs.Opening.{ScriptOf as Script}
 use Rattle.dds_transcript.specs.Text.{report_text}
+use Rattle.dds_client_view.specs.Law.{IsShown}
 use Rattle.dds_cluster.specs.Trace.{is_run, run_of}
 use Rattle.dds_world.specs.Stands.{Stands}
 use Rattle.dds_cluster.specs.declared.step.Step.{Step}
@@ -14,13 +15,14 @@ use Rattle.dds_ends.specs.declared.end.End.{End}
 use Rattle.dds_ends.specs.declared.end.End.TheVariants.{Finished, Usage, TooLong, ReadFault, Script as ScriptEnd, WriteFault, Memory}
 use Rattle.dds_ends.specs.declared.command.TheConstants.{BYTES, LINES}
 
--- the journal is the one that the script determines, and a run; each Again, Full and Lost has its cause in it; and its calls stand in one legal
--- history of one map: those with a result once, refused ones never, the others once or never, and nothing but calls does
+-- the journal is the one that the script determines, and a run; each Again, Full and Lost has its cause in it; its calls stand in one legal
+-- history of one map; and what the script's lines printed shows one, to somebody who knows nothing of the cluster
 pub record IsRunOf (script : Script) (journal : List Step) : Type 0 where
   pub follows : journal ≡ steps script
   pub run : is_run script.opening journal ≡ true
   pub caused : AreCaused script.opening journal
   pub stands : Stands (run_of script.opening journal)
+  pub shown : IsShown script
 
 -- the script is what the bytes spell, and the journal is its run
 pub record IsScriptRun (bytes : List ℕ) (script : Script) (journal : List Step) : Type 0 where

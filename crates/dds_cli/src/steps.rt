@@ -10,6 +10,7 @@ use crate::ended::Ended;
 use dds_base::memory::Memory;
 use dds_base::sink::Sink;
 use dds_base::source::{ReadEnd, Source, read_all};
+use dds_client_view::laws::clients_see_one_history;
 use dds_ends::command::{BYTES, LINES, is_step, write_transcript};
 use dds_ends::end::End;
 use dds_law_commit::laws::all_answers_are_caused;
@@ -79,5 +80,6 @@ fn run(alloc: Global, script: &Script) -> Result<Walked, Memory>
     let _ranges = script.opening().ranges();
     all_answers_are_caused();
     all_runs_stand();
+    clients_see_one_history();
     walk_script(alloc, script)
 }

@@ -153,7 +153,8 @@ pub record OrderEnds (me : ℕ) (P : Leaf → Type 0) (from : NodeNo) (l : Lette
   pub asks : AllAsk P (seat t.state) t.out.letters
 
 pub letter-ends : (me : ℕ) (P : Leaf → Type 0) (s : BrickState) (from : NodeNo) (l : Letter) → IsOfAnother s from l → IsBoth me (own s)
-    → OrderMakes s.order → InOrder P s.order → ((o : OpenOrder) → s.order ≡ Some o → IsWhole o) → HeardOk P s.order l → OrderEnds me P from l s (live_brick_turn s from l)
+    → OrderMakes s.order → InOrder P s.order → ((o : OpenOrder) → s.order ≡ Some o → IsWhole o) → HeardOk P s.order l
+    → OrderEnds me P from l s (live_brick_turn s from l)
 letter-ends me P s from l other both makes sound whole told =
     let t = live_brick_turn s from l in
     let u = letter-turns s from l other in

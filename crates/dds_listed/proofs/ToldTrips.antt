@@ -48,8 +48,8 @@ new-whole o p e leasing = λ k.
 
 module _ (me : ℕ) (P : Leaf → Type 0) where
   -- a new order with its letters, and what follows
-  with-new : (m : LeafMap) {b c : Stage} {y z : Seat} {ms : List (NodeNo × Letter)} (ls : List (NodeNo × Letter)) (o : OpenOrder) → Trip b y ms c z → b ≡ nothing_owed
-      → IsBoth me y.own → y.own.order ≡ Some o → o.granted ≡ [] → StandsAs me P (Some o) (Some o) → SplitsIn m (Some o) → AllAsk P z ls
+  with-new : (m : LeafMap) {b c : Stage} {y z : Seat} {ms : List (NodeNo × Letter)} (ls : List (NodeNo × Letter)) (o : OpenOrder)
+      → Trip b y ms c z → b ≡ nothing_owed → IsBoth me y.own → y.own.order ≡ Some o → o.granted ≡ [] → StandsAs me P (Some o) (Some o) → SplitsIn m (Some o) → AllAsk P z ls
       → ToldEnds me P m z (ls ++ ms)
   with-new m {b = b} {y = y} {z = z} {ms = ms} ls o w e both there none stands its_leaf asks =
       let r = trip-ends me P (Some o) w (nothing-ok P b e) both (subst (StandsAs me P (Some o)) (sym there) stands) in
@@ -106,9 +106,10 @@ module _ (me : ℕ) (P : Leaf → Type 0) where
   told-ends (does_next a b c x y z ls ms (pends p may) q w) e both none own = absurd (told-not (sym e ∙ q.0))
   told-ends (does_next a b c x y z ls ms (drops txn) q w) e both none own = absurd (told-not (sym e ∙ q.0))
   told-ends (does_next a b c x y z ls ms (joins name via may) q w) e both none own =
-      with-new x.own.leaves ls (new_order x (Join via) name None (via ∷ [])) w q.1 (deed-both me x y ls (joins name via may) both) refl refl
-      (first-stands me P (Some (new_order x (Join via) name None (via ∷ []))) (tt, tt) (λ o i. new-whole (new_order x (Join via) name None (via ∷ [])) o i refl))
-      (λ o i task. absurd (both_ways (is_join o.task) task (ap (λ (q : OpenOrder). is_join q.task) (sym (the-order _ o i))))) (tt, tt)
+      let o = new_order x (Join via) name None (via ∷ []) in
+      with-new x.own.leaves ls o w q.1 (deed-both me x y ls (joins name via may) both) refl refl
+      (first-stands me P (Some o) (tt, tt) (λ p i. new-whole o p i refl))
+      (λ p i task. absurd (both_ways (is_join p.task) task (ap (λ (r : OpenOrder). is_join r.task) (sym (the-order o p i))))) (tt, tt)
   told-ends {z = z} (does_next a b c x y _ ls ms (splits leaf may) q w) e both none own =
       let its : P leaf = each-is P (get x.own.leaves may.at) leaf may.there (own may.at) in
       let o = new_order x Split leaf.name (Some leaf) (split_asked x leaf) in
