@@ -49,7 +49,8 @@ new-whole o p e leasing = λ k.
 module _ (me : ℕ) (P : Leaf → Type 0) where
   -- a new order with its letters, and what follows
   with-new : (m : LeafMap) {b c : Stage} {y z : Seat} {ms : List (NodeNo × Letter)} (ls : List (NodeNo × Letter)) (o : OpenOrder)
-      → Trip b y ms c z → b ≡ nothing_owed → IsBoth me y.own → y.own.order ≡ Some o → o.granted ≡ [] → StandsAs me P (Some o) (Some o) → SplitsIn m (Some o) → AllAsk P z ls
+      → Trip b y ms c z → b ≡ nothing_owed → IsBoth me y.own → y.own.order ≡ Some o → o.granted ≡ []
+      → StandsAs me P (Some o) (Some o) → SplitsIn m (Some o) → AllAsk P z ls
       → ToldEnds me P m z (ls ++ ms)
   with-new m {b = b} {y = y} {z = z} {ms = ms} ls o w e both there none stands its_leaf asks =
       let r = trip-ends me P (Some o) w (nothing-ok P b e) both (subst (StandsAs me P (Some o)) (sym there) stands) in
