@@ -13,8 +13,7 @@ use dds_base::source::{ReadEnd, Source, read_all};
 use dds_client_view::laws::clients_see_one_history;
 use dds_ends::command::{BYTES, LINES, is_step, write_transcript};
 use dds_ends::end::End;
-use dds_law_commit::laws::all_answers_are_caused;
-use dds_law_values::laws::all_runs_stand;
+use dds_law_config::laws::run_stands;
 use dds_script::opening::Script;
 use dds_script::read_script::read_script;
 use dds_script::script_error::ScriptError;
@@ -78,8 +77,7 @@ fn run(alloc: Global, script: &Script) -> Result<Walked, Memory>
     ensures lines { IfOk result (λ ran. ran.lines.items ≡ transcript script.now ran.journal) }
 {
     let _ranges = script.opening().ranges();
-    all_answers_are_caused();
-    all_runs_stand();
+    run_stands();
     clients_see_one_history();
     walk_script(alloc, script)
 }

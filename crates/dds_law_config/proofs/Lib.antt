@@ -1,2 +1,6 @@
+pub mod Rows
+pub mod Replies
+pub mod Standing
+pub mod Values
 pub mod Runs
 pub mod Lost

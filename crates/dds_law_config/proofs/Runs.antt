@@ -7,11 +7,12 @@ use Rattle.dds_law_commit.proofs.Causes.{all-are-caused}
 use Rattle.dds_law_leaf.proofs.Ever.{leaves-are-one}
 use Rattle.dds_law_notice.proofs.Last.{notices-are-last}
 use Rattle.dds_law_refusal.proofs.Facts.{refusals-true}
-use Rattle.dds_law_values.proofs.Runs.{always-hold, runs-stand}
 use Rattle.dds_net.proofs.Prefixes.{run-take}
 use Rattle.dds_order_runs.proofs.Group.{groups-are-shared}
 use Rattle.dds_outcomes.proofs.Runs.{outcomes-are-one}
 use Rattle.dds_script.specs.Opening.{IsOpening, OpeningOf}
+use Rattle.dds_law_config.proofs.Standing.{runs-stand}
+use Rattle.dds_law_config.proofs.Values.{always-hold}
 use Rattle.dds_law_config.specs.Law.{AllRunsStand, FactsHold, FixedRunsStand}
 
 -- The laws of every run, put together: a beginning of a run is a run.

@@ -1,5 +1,6 @@
 use Rattle.std.proofs.Common.{◌≡◌, ℕ, zero, suc, ◌||◌, ◌==◌, Bool, true, false, not, Option, Some, None, List, [], ◌∷◌, refl, sym, ap, ◌∙◌, subst}
 use Rattle.std.proofs.lemmas.Bool.{and_from, eq-eqb}
+use Rattle.std.specs.List.{AllByRecursion}
 use Rattle.std.specs.Prelude.{slice_get}
 use Rattle.dds_answered.proofs.Having.{Has}
 use Rattle.dds_answered.proofs.Lists.{at-filter}
@@ -12,7 +13,7 @@ use Rattle.dds_calls.proofs.Asked.{all-each}
 use Rattle.dds_calls.proofs.Told.{At, IsGiven, told-given}
 use Rattle.dds_calls.specs.Law.{OfAnswer}
 use Rattle.dds_cluster.specs.Lists.{is_answer}
-use Rattle.dds_cluster.specs.Trace.{run_of}
+use Rattle.dds_cluster.specs.Trace.{is_run, run_of}
 use Rattle.dds_cluster.specs.declared.step.Step.{Step}
 use Rattle.dds_cluster.specs.declared.trace.Asked.{Asked}
 use Rattle.dds_cluster.specs.declared.trace.Made.{Made}
@@ -22,14 +23,17 @@ use Rattle.dds_copies.proofs.Runs.{joins-copy}
 use Rattle.dds_core.proofs.Lists.{all-is}
 use Rattle.dds_law_commit.proofs.Calls.{calls-are-kept}
 use Rattle.dds_once.proofs.Runs.{is_of}
-use Rattle.dds_script.specs.Opening.{OpeningOf}
-use Rattle.dds_values.proofs.Runs.{held-where-given}
-use Rattle.dds_world.specs.Stands.{AnsweredOnceBy, HasOneEntry, answer_to, is_result, placed_history, stands_in}
-use Rattle.dds_values.proofs.Runs.{Premises}
-use Rattle.dds_replies.proofs.Replies.{IsItsReply, reply-there}
-use Rattle.dds_replies.specs.Law.{AllAnsweredOnce, AnsweredOnceWhereGiven, StandsWhereGiven, StandsWhereOrdersTalk}
+use Rattle.dds_order_runs.proofs.Runs.{orders-always-talk}
+use Rattle.dds_script.specs.Opening.{IsOpening, OpeningOf}
+use Rattle.dds_values.proofs.Runs.{Premises, held-where-given}
+use Rattle.dds_world.specs.Stands.{AnsweredOnce, AnsweredOnceBy, HasOneEntry, Stands, answer_to, is_result, placed_history, stands_in}
+use Rattle.dds_law_config.proofs.Replies.{IsItsReply, reply-there}
 
 -- Each answered call has its one entry with the reply that was answered; so a run's calls stand.
+
+-- each call that was answered with a result has exactly one entry, with the reply that it was answered, between its Input and its answer
+abbrev AllAnsweredOnce : Trace → Type 0
+AllAnsweredOnce t = AllByRecursion (AnsweredOnce t.told (placed_history t)) t.asked
 
 -- the entry of an answered update is the point with the reply
 module _ (t : Trace) (a : Asked) (r : Told) (its : IsOf a r) (e : HasItsEntry (placed_history t) a r) (w : Has t.made (IsItsReply r)) where
@@ -79,7 +83,7 @@ module _ (o : OpeningOf) (journal : List Step) (given : Premises o journal) wher
   once-by i a there None k e = tt
   once-by i a there (Some r) k e = λ good. entry-is i a r there k.0 k.1 good (e good)
 
-  pub all-once : AllAnsweredOnce t
+  all-once : AllAnsweredOnce t
   all-once =
       all-each _ t.asked (λ i a there.
       once-by i a there (answer_to t.told a.caller a.call)
@@ -87,19 +91,19 @@ module _ (o : OpeningOf) (journal : List Step) (given : Premises o journal) wher
       (all-each _ t.told (λ j r told its. (all-is (IsGiven o journal) t.told j r (told-given o journal) told, its))))
       (all-is (StandsAnswered t.told (placed_history t)) t.asked i a (answered-calls-stand o journal given.opening given.run) there))
 
-pub answered-once : AnsweredOnceWhereGiven
-answered-once o journal h run talk joins = all-once o journal (record { opening = h; run = run; talk = talk; joins = joins })
-
-pub runs-stand : StandsWhereGiven
-runs-stand o journal h run talk joins =
-    let kept = calls-are-kept o journal h run in
+pub premises-stand : (o : OpeningOf) (journal : List Step) → Premises o journal → Stands (run_of o journal)
+premises-stand o journal given =
+    let kept = calls-are-kept o journal given.opening given.run in
     record {
-      legal = (held-where-given o journal h run talk joins).history_is;
-      answered_once = answered-once o journal h run talk joins;
+      legal = (held-where-given o journal given.opening given.run given.talk given.joins).history_is;
+      answered_once = all-once o journal given;
       refused_never = kept.refused_never;
       unanswered_once_or_never = kept.unanswered_once_or_never;
       entries_are_calls = kept.entries_are_calls;
     }
 
-pub stand-where-orders-talk : StandsWhereOrdersTalk
-stand-where-orders-talk o journal h run talk = runs-stand o journal h run talk (joins-copy o journal h run talk).served
+-- that orders and their members talk by the table is so of every run, and the rest follows
+pub runs-stand : (o : OpeningOf) (journal : List Step) → IsOpening o → is_run o journal ≡ true → Stands (run_of o journal)
+runs-stand o journal h run =
+    let talk = orders-always-talk o journal h run in
+    premises-stand o journal (record { opening = h; run = run; talk = talk; joins = (joins-copy o journal h run talk).served })

@@ -49,7 +49,7 @@ use Rattle.dds_values.proofs.Settles.{PointFits}
 use Rattle.dds_values.specs.Values.{CallFlag, HasFlag, LetterFlag, NodeHolds}
 use Rattle.dds_world.specs.Stands.{is_result}
 use Rattle.dds_values.proofs.Runs.{Premises, along}
-use Rattle.dds_replies.proofs.Rows.{update-reply}
+use Rattle.dds_law_config.proofs.Rows.{update-reply}
 
 -- The point of an answered update: the first one of the attempt that is answered, with the reply that is answered.
 

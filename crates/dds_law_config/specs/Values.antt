@@ -1,12 +1,11 @@
 -- What bricks hold and joins copy, of each run of each opening.
 use Rattle.std.specs.Prelude.{◌≡◌, true, List}
-use Rattle.dds_cluster.specs.Trace.{is_run, run_of}
+use Rattle.dds_cluster.specs.Trace.{is_run}
 use Rattle.dds_cluster.specs.declared.step.Step.{Step}
 use Rattle.dds_copies.specs.Frozen.{JoinsAreFrozen}
 use Rattle.dds_copies.specs.Runs.{JoinsHaveCopied}
 use Rattle.dds_script.specs.Opening.{IsOpening, OpeningOf}
 use Rattle.dds_values.specs.Held.{ValuesHeld}
-use Rattle.dds_world.specs.Stands.{Stands}
 use Rattle.dds_world.specs.Values.{ServersHoldTheHistory}
 
 -- the history is one of one map, and live bricks hold what the points left
@@ -23,8 +22,3 @@ JoinsAlwaysCopy = (o : OpeningOf) (journal : List Step) → IsOpening o → is_r
 
 abbrev pub BoundJoinsStayFrozen : Type 0
 BoundJoinsStayFrozen = (o : OpeningOf) (journal : List Step) → IsOpening o → is_run o journal ≡ true → JoinsAreFrozen o journal
-
--- all calls that were answered with a result stand in one legal history of one map, each once, between its Input and its answer; refused calls
--- don't stand there; an unanswered update stands there once or never; and nothing else does
-abbrev pub AllRunsStand : Type 0
-AllRunsStand = (o : OpeningOf) (journal : List Step) → IsOpening o → is_run o journal ≡ true → Stands (run_of o journal)

@@ -1,4 +1,0 @@
-//! What bricks hold, and what joins copy, in every run.
-#![tactic(auto)]
-
-pub mod laws;
