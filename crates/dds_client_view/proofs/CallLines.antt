@@ -1,8 +1,9 @@
 -- A call line more.
 use Rattle.std.proofs.Common.{◌≡◌, ℕ, ◌+◌, ◌<◌, Bool, true, false, List, [], ◌∷◌, ◌++◌, zero, suc, refl}
 use Rattle.std.proofs.Common.{sym, ap, subst, ◌∙◌, arith, length}
-use Rattle.std.specs.Prelude.{not, ◌&&◌, ◌||◌, ◌==◌, slice_index_or, slice_set}
+use Rattle.std.specs.Prelude.{Some, None, map, if◌then◌else◌, not, ◌&&◌, ◌||◌, ◌==◌, slice_index_or, slice_set}
 use Rattle.std.specs.List.{AllByRecursion, list_any}
+use Rattle.std.proofs.lemmas.Bool.{and_parts, both_ways, eqb-true}
 use Rattle.std.proofs.lemmas.Bool.Decides.{nat_tests}
 use Rattle.std.proofs.lemmas.Grind.{flat_map-append}
 use Rattle.std.proofs.lemmas.List.{append-nil, length-set}
@@ -10,10 +11,11 @@ use Rattle.std.proofs.lemmas.List.Elements.{filter-append}
 use Rattle.dds_base.specs.declared.number.CallNo.{CallNo}
 use Rattle.dds_base.specs.declared.number.CallerNo.{CallerNo}
 use Rattle.dds_base.specs.declared.op.Op.{Op}
-use Rattle.dds_client_view.proofs.Calls.{AreMade, IsBefore, IsCallOf, made-later, made-push}
+use Rattle.dds_client_view.proofs.Calls.{AreMade, IsBefore, IsCallOf, made-later, made-push, told_answer}
 use Rattle.dds_client_view.proofs.Prints.{Prints}
+use Rattle.dds_client_view.specs.Client.{IsUnansweredBefore}
 use Rattle.dds_client_view.specs.Law.{body}
-use Rattle.dds_client_view.specs.Seen.{SeenCall, SeenLine, answer_on, answers_in, call_of, calls_in, is_busy, is_line_of, lines_of, printed_by}
+use Rattle.dds_client_view.specs.Seen.{SeenCall, SeenLine, answer_on, answers_in, call_of, calls_in, first_answer, is_busy, is_line_of, lines_of, printed_by}
 use Rattle.dds_cluster.specs.Lists.{is_asked, is_call_of}
 use Rattle.dds_cluster.specs.declared.trace.Asked.{Asked}
 use Rattle.dds_cluster.specs.declared.trace.Told.{Told}
@@ -24,7 +26,7 @@ use Rattle.dds_transcript.specs.declared.report_line.ReportLine.{ReportLine}
 use Rattle.dds_transcript.specs.declared.report_line.ReportLine.TheVariants as report
 use Rattle.dds_walk.specs.Walk.{counted, says}
 use Rattle.dds_walk.specs.declared.walk.Walk.{Walk}
-use Rattle.dds_client_view.proofs.Shows.{IsNumbered, IsOld, IsOther, IsUnmade, Shows, made_calls}
+use Rattle.dds_client_view.proofs.Shows.{IsAsked, IsNumbered, IsOld, IsOther, IsUnmade, Shows, made_calls}
 use Rattle.dds_client_view.proofs.Shows.{printed-push, calls-push, lines-same, lines-one, numbered-more, old-more, answers-more, places-more, plain-more}
 
 -- a call that has the caller's next number isn't among those so far
@@ -42,6 +44,24 @@ not-asked : (before : List SeenLine) (caller : ℕ) (call : CallNo) (asked : Lis
 not-asked before caller call [] e h = refl
 not-asked before caller call (a ∷ asked) e h =
     ap (λ b. b || is_asked asked caller call) (other-call a.caller caller a.call.0 call.0 before h.0 e) ∙ not-asked before caller call asked e h.1
+
+-- so it isn't answered yet
+not-answered : (before : List SeenLine) (asked : List Asked) (told : List Told) (caller : ℕ) (call : CallNo) → call.0 ≡ lines_of caller before
+    → AllByRecursion (IsOld before) asked → AllByRecursion (IsAsked asked) told → first_answer (map told_answer told) caller call ≡ None
+not-answered before asked [] caller call e h k = refl
+not-answered before asked (r ∷ told) caller call e h k =
+    elim (r.caller == caller && r.call.0 == call.0)
+    as (λ b. (r.caller == caller && r.call.0 == call.0) ≡ b
+    → (if b then Some r.reply else first_answer (map told_answer told) caller call) ≡ None) [
+      | true ↦ λ same.
+          let parts = and_parts (r.caller == caller) (r.call.0 == call.0) same in
+          let number : r.call.0 ≡ call.0 = eqb-true r.call.0 call.0 parts.1 in
+          let its : r.call ≡ call = λ i. record { 0 = number i } in
+          let was : is_asked asked caller call ≡ true =
+          subst (λ n. is_asked asked n call ≡ true) (eqb-true r.caller caller parts.0) (subst (λ n. is_asked asked r.caller n ≡ true) its k.0) in
+          absurd (both_ways (is_asked asked caller call) (not-asked before caller call asked e h) was)
+      | false ↦ λ other. not-answered before asked told caller call e h k.1
+    ] refl
 
 asked-push : (asked : List Asked) (a : Asked) (caller : ℕ) (call : CallNo) → is_asked asked caller call ≡ false → is_call_of caller call a ≡ false
     → is_asked (asked ++ a ∷ []) caller call ≡ false
@@ -115,10 +135,20 @@ below-push before s caller op busy e h =
     all-append (IsNumbered (before ++ s ∷ [])) (calls_in before) (seen_call before s.printed caller op busy ∷ []) (numbered-more before s (calls_in before) h)
     (omega (arith, one), tt)
 
+fresh-push : (before : List SeenLine) (w : Walk) (c : SeenCall) → AllByRecursion (IsAsked w.trace.asked) w.trace.told → Shows before w
+    → c.call.0 ≡ lines_of c.caller before → c.before ≡ printed_by before → AllByRecursion IsUnansweredBefore (calls_in before ++ c ∷ [])
+fresh-push before w c told h number printed =
+    all-append IsUnansweredBefore (calls_in before) (c ∷ []) h.fresh (
+      ap (λ l. first_answer (answers_in l) c.caller c.call) (printed ∙ h.printed)
+          ∙ ap (λ l. first_answer l c.caller c.call) h.answers
+          ∙ not-answered before w.trace.asked w.trace.told c.caller c.call number h.old told,
+      tt,
+    )
+
 pub shows-busy : (before : List SeenLine) (w v : Walk) (s : SeenLine) (caller : CallerNo) (call : CallNo) (op : Op) → s.line ≡ line.Call caller op
-    → s.printed ≡ report.Busy caller call ∷ [] → v ≡ says (counted w caller) (report.Busy caller call) → caller < length w.counts → Shows before w
-    → Shows (before ++ s ∷ []) v
-shows-busy before w v s caller call op is e v_is there h =
+    → s.printed ≡ report.Busy caller call ∷ [] → v ≡ says (counted w caller) (report.Busy caller call) → caller < length w.counts
+    → AllByRecursion (IsAsked w.trace.asked) w.trace.told → Shows before w → Shows (before ++ s ∷ []) v
+shows-busy before w v s caller call op is e v_is there told h =
     let c = seen_call before s.printed caller op true in
     let busy : list_any is_busy s.printed ≡ true = ap (list_any is_busy) e in
     let calls : calls_in (before ++ s ∷ []) ≡ calls_in before ++ c ∷ [] =
@@ -140,6 +170,7 @@ shows-busy before w v s caller call op is e v_is there h =
       busy = subst (λ (l : List SeenCall). AllByRecursion (IsUnmade w.trace.asked) l) (sym calls)
           (all-append (IsUnmade w.trace.asked) (calls_in before) (c ∷ []) h.busy
           ((λ b. not-asked before caller c.call w.trace.asked refl h.old), tt));
+      fresh = subst (AllByRecursion IsUnansweredBefore) (sym calls) (fresh-push before w c told h refl refl);
     } in
     subst (Shows (before ++ s ∷ [])) (sym v_is) shown
 
@@ -160,8 +191,9 @@ apart-push before (b ∷ asked) a e h = (((λ same number. omega (arith, h.0, e,
 pub shows-made : (before : List SeenLine) (w v : Walk) (s : SeenLine) (caller : CallerNo) (call : CallNo) (op : Op) (a : Asked)
     (g : Prints (a ∷ []) (counted w caller) v)
     → s.line ≡ line.Call caller op → s.printed ≡ g.more → a ≡ record { place = w.trace.steps; caller = caller; call = call; op = op }
-    → call.0 ≡ lines_of caller before → caller < length w.counts → Shows before w → Shows (before ++ s ∷ []) v
-shows-made before w v s caller call op a g is e a_is number there h =
+    → call.0 ≡ lines_of caller before → caller < length w.counts → AllByRecursion (IsAsked w.trace.asked) w.trace.told → Shows before w
+    → Shows (before ++ s ∷ []) v
+shows-made before w v s caller call op a g is e a_is number there told h =
     let c = seen_call before s.printed caller op false in
     let free : list_any is_busy s.printed ≡ false = ap (list_any is_busy) e ∙ g.free in
     let calls : calls_in (before ++ s ∷ []) ≡ calls_in before ++ c ∷ [] =
@@ -208,4 +240,5 @@ shows-made before w v s caller call op a g is e a_is number there h =
           (all-append (IsUnmade (w.trace.asked ++ a ∷ [])) (calls_in before) (c ∷ [])
           (unmade-push before w.trace.asked a (calls_in before) a_number h.below h.busy)
           ((λ b. absurd (cc)), tt)));
+      fresh = subst (AllByRecursion IsUnansweredBefore) (sym calls) (fresh-push before w c told h refl refl);
     }

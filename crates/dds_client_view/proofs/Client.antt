@@ -2,17 +2,17 @@
 use Rattle.std.proofs.Common.{◌≡◌, ◌≤◌, inl, inr, Bool, true, false, List, [], ◌∷◌, refl}
 use Rattle.std.proofs.Common.{sym, ap, subst, ◌∙◌, arith, length}
 use Rattle.std.specs.Prelude.{map, not, ◌&&◌, ◌||◌, ◌==◌, if◌then◌else◌}
-use Rattle.std.specs.List.{AllByRecursion}
+use Rattle.std.specs.List.{AllByRecursion, list_any}
 use Rattle.dds_base.specs.declared.number.CallNo.{CallNo}
 use Rattle.dds_client_view.proofs.Calls.{AreMade, IsCallOf, made-all, told_answer}
 use Rattle.dds_client_view.proofs.Order.{IsInOrder, NoLater}
 use Rattle.dds_client_view.proofs.Sees.{HasOp, Keeps, all-mapped, answer-is, entry_in, has-at-most-one, has-none, has-one, have-ops, reply_of}
 use Rattle.dds_client_view.proofs.Sees.{IsOver}
-use Rattle.dds_client_view.proofs.Shows.{IsOther, IsUnmade, Shows, made_calls}
+use Rattle.dds_client_view.proofs.Shows.{IsAsked, IsOther, IsUnmade, Shows, made_calls}
 use Rattle.dds_client_view.specs.Client as client
 use Rattle.dds_client_view.specs.Client.{ClientSees, HasAtMostOne, HasNone, HasOne, HasOneBy, IsOrdered, IsOrderedBy, StandsFirst, did_nothing, fate_by}
 use Rattle.dds_client_view.specs.Client.{is_entry_of, is_loss, may_be_done}
-use Rattle.dds_client_view.specs.Seen.{SeenCall, SeenLine, answer_in, answers_in, calls_in, printed_by}
+use Rattle.dds_client_view.specs.Seen.{is_answer_to, SeenCall, SeenLine, answer_in, answers_in, calls_in, printed_by}
 use Rattle.dds_cluster.specs.Lists.{is_asked, is_call_of}
 use Rattle.dds_cluster.specs.declared.trace.Asked.{Asked}
 use Rattle.dds_cluster.specs.declared.trace.Made.{Made}
@@ -82,6 +82,32 @@ all-parts P (c ∷ cs) h k =
       | false ↦ λ e g. (g.0 e, all-parts P cs h.1 g.1)
     ] refl k
 
+to-first : (told : List Told) (r : Told) (c : SeenCall) (made : List SeenCall) (asked : List Asked) (others : Bool) → AreMade told (c ∷ made) asked
+    → IsAsked asked r → ((rest : List Asked) → AreMade told made rest → IsAsked rest r → others ≡ true)
+    → ((c.caller == r.caller && c.call.0 == r.call.0) || others) ≡ true
+to-first told r c made [] others h k f = absurd h
+to-first told r c made (a ∷ asked) others h k f =
+    let same : is_call_of r.caller r.call a ≡ (c.caller == r.caller && c.call.0 == r.call.0) =
+    ap (λ n. n == r.caller && a.call.0 == r.call.0) h.0.caller ∙ ap (λ (n : CallNo). c.caller == r.caller && n.0 == r.call.0) h.0.call in
+    elim (c.caller == r.caller && c.call.0 == r.call.0) as (λ b. is_call_of r.caller r.call a ≡ b → (b || others) ≡ true) [
+      | true ↦ λ e. refl
+      | false ↦ λ e. f asked h.1 (ap (λ b. b || is_asked asked r.caller r.call) (sym e) ∙ k)
+    ] same
+
+-- each answer is to a call of the lines
+is-to-a-call : (told : List Told) (r : Told) (calls : List SeenCall) (asked : List Asked) → AreMade told (made_calls calls) asked → IsAsked asked r
+    → client.IsToACall calls (told_answer r)
+is-to-a-call told r [] [] h k = absurd (cc)
+is-to-a-call told r [] (a ∷ asked) h k = absurd h
+is-to-a-call told r (c ∷ calls) asked h k =
+    elim (c.busy)
+    as (λ b. AreMade told (if not b then c ∷ made_calls calls else made_calls calls) asked
+    → ((not b && (c.caller == r.caller && c.call.0 == r.call.0)) || list_any (is_answer_to (told_answer r)) calls) ≡ true) [
+      | true ↦ λ g. is-to-a-call told r calls asked g k
+      | false ↦ λ g. to-first told r c (made_calls calls) asked (list_any (is_answer_to (told_answer r)) calls) g k
+          (λ rest more i. is-to-a-call told r calls rest more i)
+    ] h
+
 -- what is so of each call of a run that stands, where each answered call is over
 keeps-all : (t : Trace) → Pairwise IsOther t.asked → Stands t → AllByRecursion (IsOver t.told (placed_history t)) t.asked
     → AllByRecursion (Keeps t.told (placed_history t) t.asked) t.asked
@@ -99,8 +125,8 @@ keeps-all t apart stands over =
 
 -- a run that stands, and the lines that made it
 pub client-sees : (seen : List SeenLine) (w : Walk) → Shows seen w → IsInOrder w.trace → Stands w.trace
-    → AllByRecursion (IsOver w.trace.told (placed_history w.trace)) w.trace.asked → ClientSees seen
-client-sees seen w h order stands over =
+    → AllByRecursion (IsOver w.trace.told (placed_history w.trace)) w.trace.asked → AllByRecursion (IsAsked w.trace.asked) w.trace.told → ClientSees seen
+client-sees seen w h order stands over told =
     let t = w.trace in
     let ms = placed_history t in
     let entries = map entry_in ms in
@@ -148,4 +174,7 @@ client-sees seen w h order stands over =
           (λ c none is. ordered-where c d entries (answer_in d.before c) (none-first c d entries (none is))) busy)
           (made-all t.told (λ c. (c.busy ≡ false) → IsOrdered entries c d) (Keeps t.told ms t.asked) made t.asked
           (λ c a f j other. ordered-two t.told ms c d a b f g in_order j.answered j.refused j.over (behind b k)) h.made keeps)) h.made keeps);
+      answers = subst (AllByRecursion (client.IsToACall calls)) (sym printed)
+          (all-mapped (IsAsked t.asked) (client.IsToACall calls) told_answer t.told (λ r k. is-to-a-call t.told r calls t.asked h.made k) told);
+      behind = h.fresh;
     }

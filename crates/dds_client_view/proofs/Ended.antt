@@ -18,7 +18,9 @@ use Rattle.dds_calls.proofs.Answered.{differ, made-all}
 use Rattle.dds_calls.proofs.Reasons.{Reason, begins-again, lost, met, reason, result, was_full}
 use Rattle.dds_world.specs.Stands.{is_result}
 use Rattle.dds_calls.proofs.Treats.{Answers, library-treats}
+use Rattle.dds_client_view.proofs.Asked.{OpenIsAsked, asked-last, asked-more, none-open, open-then}
 use Rattle.dds_client_view.proofs.Order.{IsAt, made-at}
+use Rattle.dds_cluster.specs.Lists.{is_asked}
 use Rattle.dds_client_view.proofs.Shut.{ReplySays, replies-shut, told-says}
 use Rattle.dds_client_view.specs.Client.{is_loss}
 use Rattle.dds_cluster.specs.Trace.{all_kept, is_run, run_of, start, told_at}
@@ -72,12 +74,15 @@ LosesUpdate asked caller call r = is_loss r ≡ true → AllByRecursion (IsUpdat
 -- | `shut`   | no point comes later   | an answer closes the call, and its caller makes no call with this number again     |
 -- | `before` | the claim              | what is applied is of an open call; the points before an answer have earlier places |
 -- | `lost`   | a get isn't lost       | a call that commits is an update; a call is asked once                             |
+-- | `was_asked` | it is to a call     | an open call is its caller's open one, which was asked                             |
 pub record Ends (cs : List Caller) (asked : List Asked) (made : List trace.Made) (r : Told) : Type 0 where
   pub shut : IsShut cs r.caller r.call
   pub before : AllByRecursion (IsEarlier r.place r.caller r.call) made
   pub lost : LosesUpdate asked r.caller r.call r.reply
+  pub was_asked : is_asked asked r.caller r.call ≡ true
 
 pub record AreEnded (h : History) : Type 0 where
+  pub open_calls : OpenIsAsked h.callers h.asked
   pub places : AllByRecursion (λ (m : trace.Made). m.place < h.steps) h.made
   pub ends : AllByRecursion (Ends h.callers h.asked h.made) h.told
 
@@ -98,7 +103,7 @@ result-no-loss (reply.Lost name) e = cc
 result-no-loss other e = refl
 
 module _ (z : Sizes) (few : z.bricks ≤ 64) (some : z.libraries ≤ 16) (h : History) (n : Net) (b : Book × talk.Books) (built : IsBuilt z n)
-    (k : Stands z h n b) (once : AreOnce h n b.0) where
+    (k : Stands z h n b) (once : AreOnce h n b.0) (opened : OpenIsAsked h.callers h.asked) where
   -- an open call that is answered
   module _ (at : ℕ) (s : LibraryState) (here : n.node at ≡ a_library s) (place : ℕ) (c : OpenCall) (is : slice_get s.calls place ≡ Some c) where
     its-used : IsUsed h.callers c.request.caller c.request.call
@@ -109,6 +114,11 @@ module _ (z : Sizes) (few : z.bricks ≤ 64) (some : z.libraries ≤ 16) (h : Hi
           there = owned.there;
           past = k.last.callers c.request.caller owned.caller c.request.call owned.there owned.call;
         }
+
+    its-asked : is_asked h.asked c.request.caller c.request.call ≡ true
+    its-asked =
+        let owned = all-is (IsOwned h.callers at) s.calls place c (own-calls z h n b at s k here).owned is in
+        opened c.request.caller owned.caller c.request.call owned.there owned.call
 
     its-phase : PhaseOk z s.known c.request.op c.phase
     its-phase =
@@ -132,7 +142,7 @@ module _ (z : Sizes) (few : z.bricks ≤ 64) (some : z.libraries ≤ 16) (h : Hi
   -- what is so of each call that an event answers
   abbrev Answered : Event → ℕ → CallNo → Reply → Type 0
   Answered e i call r = IsUsed (opened_of h.callers e) i call ×
-      (LosesUpdate (goes h e).asked i call r × AllByRecursion (IsEarlier h.steps i call) (goes h e).made)
+      (LosesUpdate (goes h e).asked i call r × AllByRecursion (IsEarlier h.steps i call) (goes h e).made × (is_asked (goes h e).asked i call ≡ true))
 
   -- where an event has no points, all points stand before it
   all-earlier : (i : ℕ) (call : CallNo) → AllByRecursion (λ (m : trace.Made). m.place < h.steps) h.made
@@ -159,7 +169,11 @@ module _ (z : Sizes) (few : z.bricks ≤ 64) (some : z.libraries ≤ 16) (h : Hi
       let loses = loses-by at s f.here w.by.index c w.by.there from l w.reply because in
       subst (ReplySays (Answered e)) (sym w.is) (
         its-used at s f.here w.by.index c w.by.there,
-        ((λ lost. all-append (IsUpdate c.request.caller c.request.call) h.asked [] (loses lost) tt), all-earlier c.request.caller c.request.call places),
+        (
+          (λ lost. all-append (IsUpdate c.request.caller c.request.call) h.asked [] (loses lost) tt),
+          all-earlier c.request.caller c.request.call places,
+          asked-more h.asked [] c.request.caller c.request.call (its-asked at s f.here w.by.index c w.by.there),
+        ),
       )) t.replies
   answers (library_asked at caller call o s) f places =
       let e = library_asked at caller call o s in
@@ -170,7 +184,11 @@ module _ (z : Sizes) (few : z.bricks ≤ 64) (some : z.libraries ≤ 16) (h : Hi
       (λ x is.
       let again = begins-again d r t x (new-begins d r) is in (
         opens-used h.callers caller at call (slice_get h.callers caller) refl f.may,
-        ((λ lost. absurd (no-loss x (ap is_loss (sym again.2)) lost)), all-earlier caller call places),
+        (
+          (λ lost. absurd (no-loss x (ap is_loss (sym again.2)) lost)),
+          all-earlier caller call places,
+          asked-last h.asked (record { place = h.steps; caller = caller; call = call; op = o }),
+        ),
       ))
   answers (brick_takes at from l s) f places =
       no-calls _ (Answered (brick_takes at from l s)) (live_brick_turn s from l).out.replies (letter-tells s from l).replies
@@ -192,6 +210,7 @@ module _ (z : Sizes) (few : z.bricks ≤ 64) (some : z.libraries ≤ 16) (h : Hi
         lost = λ lost. all-append (IsUpdate r.caller r.call) h.asked (asked_of h.steps e) (g.lost lost)
             (all-map (IsNew h.callers (goes h e).callers h.steps) (IsUpdate r.caller r.call) (asked_of h.steps e)
             (λ x new same number. absurd (free-unused h.callers x.caller r.caller x.call r.call new.free used same number)) (asked-new z h n e f));
+        was_asked = asked-more h.asked (asked_of h.steps e) r.caller r.call g.was_asked;
       }
 
   pub ended-then : (e : Event) → Fits z h.callers n e → AreEnded h → AreEnded (goes h e)
@@ -199,8 +218,10 @@ module _ (z : Sizes) (few : z.bricks ≤ 64) (some : z.libraries ≤ 16) (h : Hi
       let cs = (goes h e).callers in
       let asked = (goes h e).asked in
       let made = (goes h e).made in
-      let At = λ (i : ℕ) (call : CallNo) (r : Reply). LosesUpdate asked i call r × AllByRecursion (IsEarlier h.steps i call) made in
+      let At = λ (i : ℕ) (call : CallNo) (r : Reply).
+      LosesUpdate asked i call r × AllByRecursion (IsEarlier h.steps i call) made × (is_asked asked i call ≡ true) in
       record {
+        open_calls = open-then h e g.open_calls;
         places = all-append (λ (m : trace.Made). m.place < h.steps + 1) h.made (all_kept h.made (points_of h.steps e))
             (all-map (λ (m : trace.Made). m.place < h.steps) (λ (m : trace.Made). m.place < h.steps + 1) h.made (λ m p. omega (arith, p)) g.places)
             (kept-all (λ (m : trace.Made). m.place < h.steps + 1) h.made (points_of h.steps e)
@@ -208,7 +229,12 @@ module _ (z : Sizes) (few : z.bricks ≤ 64) (some : z.libraries ≤ 16) (h : Hi
         ends = all-append (Ends cs asked made) h.told (told_at h.steps (replies_of e))
             (all-map (Ends h.callers h.asked h.made) (Ends cs asked made) h.told (λ r q. still-ends e r f q) g.ends)
             (told-says (λ i call r. IsShut cs i call × At i call r) (Ends cs asked made) h.steps (replies_of e)
-            (λ r place w. record { shut = w.0; before = subst (λ p. AllByRecursion (IsEarlier p r.caller r.call) made) (sym place) w.1.1; lost = w.1.0 })
+            (λ r place w. record {
+              shut = w.0;
+              before = subst (λ p. AllByRecursion (IsEarlier p r.caller r.call) made) (sym place) w.1.1;
+              lost = w.1.0;
+              was_asked = w.1.2;
+            })
             (replies-shut At (opened_of h.callers e) (replies_of e) (answers e f g.places)));
       }
 
@@ -226,5 +252,5 @@ run-ended o journal h run =
     (Both (Both (Stands z) (AreOnceOver z)) (λ i n b u. AreEnded i)) journal (start o) few
     (kept-over z ((Book × talk.Books) × Unit {0}) (both_books (λ i n e b. (booked e b.0, talk.adds i n e b.1)) (λ i n e b u. tt))
     (Both (Stands z) (AreOnceOver z)) (Unit {0}) (λ i n e b u. tt) (λ i n b u. AreEnded i) low
-    (λ i n e b u built f k after g. ended-then z few some i n b.0 built k.0 k.1 e f g))
-    (record { sized = first.sized; books = (first.books, tt); is = (first.is, record { places = tt; ends = tt }) }) run).is.1
+    (λ i n e b u built f k after g. ended-then z few some i n b.0 built k.0 k.1 g.open_calls e f g))
+    (record { sized = first.sized; books = (first.books, tt); is = (first.is, record { open_calls = λ k x call e f. absurd (none-open o.libraries o.callers 0 k x call e f); places = tt; ends = tt }) }) run).is.1

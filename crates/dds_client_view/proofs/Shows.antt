@@ -8,6 +8,7 @@ use Rattle.std.proofs.lemmas.List.{append-nil, length-append, map-append}
 use Rattle.std.proofs.lemmas.List.Elements.{filter-append}
 use Rattle.dds_client_view.proofs.Calls.{AreMade, IsBefore, made-later, told_answer}
 use Rattle.dds_client_view.proofs.Prints.{IsAside, Prints}
+use Rattle.dds_client_view.specs.Client.{IsUnansweredBefore}
 use Rattle.dds_client_view.specs.Law.{body, is_last}
 use Rattle.dds_client_view.specs.Seen.{SeenCall, SeenLine, answer_on, answers_in, call_of, calls_behind, calls_in, is_line_of, lines_of, printed_by}
 use Rattle.dds_cluster.specs.Lists.{is_asked}
@@ -35,6 +36,10 @@ IsNumbered before c = c.call.0 < lines_of c.caller before
 abbrev pub IsOld : List SeenLine → Asked → Type 0
 IsOld before a = a.call.0 < lines_of a.caller before
 
+-- each answer is to a call that was asked
+abbrev pub IsAsked : List Asked → Told → Type 0
+IsAsked asked r = is_asked asked r.caller r.call ≡ true
+
 -- two calls have different callers or numbers
 abbrev pub IsOther : Asked → Asked → Type 0
 IsOther a b = a.caller ≡ b.caller → a.call.0 ≡ b.call.0 → ⊥
@@ -51,6 +56,7 @@ IsOther a b = a.caller ≡ b.caller → a.call.0 ≡ b.call.0 → ⊥
 -- | `made`                      | the run's calls are those of the lines whose callers weren't busy, each with what was printed  |
 -- |                             | before its line                                                                                |
 -- | `busy`                      | a call whose caller was busy was never made                                                    |
+-- | `fresh`                     | no call was answered before its line                                                           |
 pub record Shows (before : List SeenLine) (w : Walk) : Type 0 where
   pub printed : printed_by before ≡ w.lines
   pub answers : answers_in w.lines ≡ map told_answer w.trace.told
@@ -62,6 +68,7 @@ pub record Shows (before : List SeenLine) (w : Walk) : Type 0 where
   pub plain : body w.lines ≡ w.lines
   pub made : AreMade w.trace.told (made_calls (calls_in before)) w.trace.asked
   pub busy : AllByRecursion (IsUnmade w.trace.asked) (calls_in before)
+  pub fresh : AllByRecursion IsUnansweredBefore (calls_in before)
 
 -- one line more
 pub printed-push : (before : List SeenLine) (s : SeenLine) → printed_by (before ++ s ∷ []) ≡ printed_by before ++ s.printed
@@ -161,4 +168,5 @@ shows-aside before w v s g e aside h =
           (made-later w.trace.told g.later v.trace.told (made_calls (calls_in before)) w.trace.asked g.told h.made));
       busy = subst (λ (l : List SeenCall). AllByRecursion (IsUnmade v.trace.asked) l) (sym calls)
           (subst (λ (l : List Asked). AllByRecursion (IsUnmade l) (calls_in before)) (sym asked) h.busy);
+      fresh = subst (AllByRecursion IsUnansweredBefore) (sym calls) h.fresh;
     }

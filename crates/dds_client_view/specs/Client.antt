@@ -1,13 +1,13 @@
 -- What is promised to somebody who only uses the table.
 use Rattle.std.specs.Prelude.{not, ◌||◌, ◌≡◌, ◌≤◌, ◌⊎◌, Bool, true, false, ◌&&◌, ◌==◌, List, [], ◌∷◌, Option, Some, None, filter, length}
-use Rattle.std.specs.List.{AllByRecursion}
+use Rattle.std.specs.List.{AllByRecursion, list_any}
 use Rattle.dds_base.specs.Op.{is_get}
 use Rattle.dds_base.specs.declared.op.Op.{Op}
 use Rattle.dds_base.specs.declared.op.Reply.{Reply}
 use Rattle.dds_base.specs.declared.op.Reply.TheVariants as reply
 use Rattle.dds_history.specs.History.{IsLegal}
 use Rattle.dds_history.specs.declared.entry.Entry.{Entry}
-use Rattle.dds_client_view.specs.Seen.{SeenCall, SeenLine, answer_in, calls_in, printed_by}
+use Rattle.dds_client_view.specs.Seen.{SeenAnswer, SeenCall, SeenLine, answer_in, answers_in, calls_in, is_answer_to, printed_by}
 
 -- what became of a call by the end: its caller was busy, or it was answered, or it is still open
 pub data Fate : Type 0 where
@@ -24,15 +24,20 @@ fate_by false None = Open
 abbrev pub fate : List SeenLine → SeenCall → Fate
 fate seen c = fate_by c.busy (answer_in (printed_by seen) c)
 
--- a reply is a result: the call was done
+-- the reply says that nothing was done
+abbrev pub is_refusal : Reply → Bool
+is_refusal (reply.Again met) = true
+is_refusal (reply.Full brick) = true
+is_refusal other = false
+
+-- the reply says that the update may have been done or not
+abbrev pub is_loss : Reply → Bool
+is_loss (reply.Lost name) = true
+is_loss other = false
+
+-- any other reply is a result: the call was done
 abbrev pub is_result : Reply → Bool
-is_result (reply.Value value) = true
-is_result reply.Absent = true
-is_result (reply.Done was) = true
-is_result (reply.Swapped done) = true
-is_result (reply.Again met) = false
-is_result (reply.Full brick) = false
-is_result (reply.Lost name) = false
+is_result reply = not (is_refusal reply || is_loss reply)
 
 -- an entry of the list is of this call
 abbrev pub is_entry_of : SeenCall → Entry → Bool
@@ -54,21 +59,6 @@ HasOneBy c (Answered reply) own = is_result reply ≡ true → own ≡ entry_of 
 
 abbrev pub HasOne : List SeenLine → List Entry → SeenCall → Type 0
 HasOne seen entries c = HasOneBy c (fate seen c) (entries_of entries c)
-
--- the reply says that nothing was done
-abbrev pub is_refusal : Reply → Bool
-is_refusal (reply.Value value) = false
-is_refusal reply.Absent = false
-is_refusal (reply.Done was) = false
-is_refusal (reply.Swapped done) = false
-is_refusal (reply.Again met) = true
-is_refusal (reply.Full brick) = true
-is_refusal (reply.Lost name) = false
-
--- the reply says that the update may have been done or not
-abbrev pub is_loss : Reply → Bool
-is_loss (reply.Lost name) = true
-is_loss other = false
 
 -- nothing was done: the caller was busy, or the call was answered Again or Full, or it is a get that was answered with no result, or is
 -- still open
@@ -109,11 +99,18 @@ IsOrderedBy c d entries (Some reply) = StandsFirst c d entries
 abbrev pub IsOrdered : List Entry → SeenCall → SeenCall → Type 0
 IsOrdered entries c d = IsOrderedBy c d entries (answer_in d.before c)
 
+-- each answer is to a call that was made, and was printed behind its line
+abbrev pub IsToACall : List SeenCall → SeenAnswer → Type 0
+IsToACall calls r = list_any (is_answer_to r) calls ≡ true
+
+abbrev pub IsUnansweredBefore : SeenCall → Type 0
+IsUnansweredBefore c = answer_in c.before c ≡ None
+
 -- What a script and what it printed show: the calls stand in a list of entries, which is legal for one map from the empty one on. A call
 -- that was answered with a result has exactly one entry there, with its operation and that reply. One that was answered Again or
 -- Full, one whose caller was busy and a get that is still open have none. An update that was answered Lost, or is still open, has at
 -- most one. There are no others. And where a call's answer was printed before another call's line stood, its entry, if it has one, comes
--- first.
+-- first. Each answer that was printed is to one of the calls whose callers weren't busy, and none stands before its call's line.
 pub record ClientSees (seen : List SeenLine) : Type 0 where
   pub entries : List Entry
   pub legal : IsLegal entries
@@ -122,3 +119,5 @@ pub record ClientSees (seen : List SeenLine) : Type 0 where
   pub unanswered : AllByRecursion (HasAtMostOne seen entries) (calls_in seen)
   pub others : AllByRecursion (IsOfACall (calls_in seen)) entries
   pub ordered : AllByRecursion (λ d. AllByRecursion (λ c. IsOrdered entries c d) (calls_in seen)) (calls_in seen)
+  pub answers : AllByRecursion (IsToACall (calls_in seen)) (answers_in (printed_by seen))
+  pub behind : AllByRecursion IsUnansweredBefore (calls_in seen)

@@ -1,5 +1,5 @@
 -- A script beside what it printed, and the calls that somebody who only uses the table reads there.
-use Rattle.std.specs.Prelude.{ℕ, Bool, true, false, ◌&&◌, ◌==◌, List, [], ◌∷◌, ◌++◌, Option, Some, None, filter, length, if◌then◌else◌}
+use Rattle.std.specs.Prelude.{not, ℕ, Bool, true, false, ◌&&◌, ◌==◌, List, [], ◌∷◌, ◌++◌, Option, Some, None, filter, length, if◌then◌else◌}
 use Rattle.std.specs.List.{flat_map, list_any}
 use Rattle.dds_base.specs.declared.number.CallNo.{CallNo}
 use Rattle.dds_base.specs.declared.op.Op.{Op}
@@ -85,3 +85,7 @@ first_answer (r ∷ rs) caller call = if r.caller == caller && r.call.0 == call.
 -- what a call was answered in these lines of the transcript
 abbrev pub answer_in : List ReportLine → SeenCall → Option Reply
 answer_in lines c = first_answer (answers_in lines) c.caller c.call
+
+-- the answer is to this call, whose caller wasn't busy
+abbrev pub is_answer_to : SeenAnswer → SeenCall → Bool
+is_answer_to r c = not c.busy && (c.caller == r.caller && c.call.0 == r.call.0)
