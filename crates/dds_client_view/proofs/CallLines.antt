@@ -1,32 +1,33 @@
 -- A call line more.
 use Rattle.std.proofs.Common.{◌≡◌, ℕ, ◌+◌, ◌<◌, Bool, true, false, List, [], ◌∷◌, ◌++◌, zero, suc, refl}
 use Rattle.std.proofs.Common.{sym, ap, subst, ◌∙◌, arith, length}
-use Rattle.std.specs.Prelude.{Some, None, map, if◌then◌else◌, not, ◌&&◌, ◌||◌, ◌==◌, slice_index_or, slice_set}
+use Rattle.std.specs.Prelude.{is_none, nat_lt, Some, None, map, if◌then◌else◌, not, ◌&&◌, ◌||◌, ◌==◌, slice_index_or, slice_set}
 use Rattle.std.specs.List.{AllByRecursion, list_any}
 use Rattle.std.proofs.lemmas.Bool.{and_parts, both_ways, eqb-true}
 use Rattle.std.proofs.lemmas.Bool.Decides.{nat_tests}
 use Rattle.std.proofs.lemmas.Grind.{flat_map-append}
 use Rattle.std.proofs.lemmas.List.{append-nil, length-set}
 use Rattle.std.proofs.lemmas.List.Elements.{filter-append}
+use Rattle.std.proofs.lemmas.List.Folds.{list_any-append}
 use Rattle.dds_base.specs.declared.number.CallNo.{CallNo}
 use Rattle.dds_base.specs.declared.number.CallerNo.{CallerNo}
 use Rattle.dds_base.specs.declared.op.Op.{Op}
-use Rattle.dds_client_view.proofs.Calls.{AreMade, IsBefore, IsCallOf, made-later, made-push, told_answer}
+use Rattle.dds_client_view.proofs.Calls.{AreMade, IsBefore, IsCallOf, made-later, made-push, told_answer, any-made, made_calls}
 use Rattle.dds_client_view.proofs.Prints.{Prints}
-use Rattle.dds_client_view.specs.Client.{IsUnansweredBefore}
+use Rattle.dds_client_view.specs.Client.{IsBusyFor, IsUnansweredBefore, is_open_at}
 use Rattle.dds_client_view.specs.Law.{body}
-use Rattle.dds_client_view.specs.Seen.{SeenCall, SeenLine, answer_on, answers_in, call_of, calls_in, first_answer, is_busy, is_line_of, lines_of, printed_by}
+use Rattle.dds_client_view.specs.Seen.{answer_in, SeenCall, SeenLine, answer_on, answers_in, call_of, calls_in, first_answer, is_busy, is_line_of, lines_of, printed_by}
 use Rattle.dds_cluster.specs.Lists.{is_asked, is_call_of}
 use Rattle.dds_cluster.specs.declared.trace.Asked.{Asked}
 use Rattle.dds_cluster.specs.declared.trace.Told.{Told}
-use Rattle.dds_core.proofs.Lists.{all-append}
+use Rattle.dds_core.proofs.Lists.{all-append, all-map}
 use Rattle.dds_net.proofs.Pairwise.{Pairwise, pairs-append}
 use Rattle.dds_script.specs.declared.line.Line.TheVariants as line
 use Rattle.dds_transcript.specs.declared.report_line.ReportLine.{ReportLine}
 use Rattle.dds_transcript.specs.declared.report_line.ReportLine.TheVariants as report
 use Rattle.dds_walk.specs.Walk.{counted, says}
 use Rattle.dds_walk.specs.declared.walk.Walk.{Walk}
-use Rattle.dds_client_view.proofs.Shows.{IsAsked, IsNumbered, IsOld, IsOther, IsUnmade, Shows, made_calls}
+use Rattle.dds_client_view.proofs.Shows.{IsAsked, IsNumbered, IsOld, IsOther, IsUnmade, Shows}
 use Rattle.dds_client_view.proofs.Shows.{printed-push, calls-push, lines-same, lines-one, numbered-more, old-more, answers-more, places-more, plain-more}
 
 -- a call that has the caller's next number isn't among those so far
@@ -44,6 +45,18 @@ not-asked : (before : List SeenLine) (caller : ℕ) (call : CallNo) (asked : Lis
 not-asked before caller call [] e h = refl
 not-asked before caller call (a ∷ asked) e h =
     ap (λ b. b || is_asked asked caller call) (other-call a.caller caller a.call.0 call.0 before h.0 e) ∙ not-asked before caller call asked e h.1
+
+-- a call that was asked has a number below the caller's next one
+old-number : (before : List SeenLine) (k : ℕ) (call : CallNo) (asked : List Asked) → AllByRecursion (IsOld before) asked → is_asked asked k call ≡ true
+    → call.0 < lines_of k before
+old-number before k call [] h e = absurd (cc)
+old-number before k call (a ∷ asked) h e =
+    elim (is_call_of k call a) as (λ b. is_call_of k call a ≡ b → (b || is_asked asked k call) ≡ true → call.0 < lines_of k before) [
+      | true ↦ λ is any.
+          let parts = and_parts (a.caller == k) (a.call.0 == call.0) is in
+          omega (arith, h.0, eqb-true a.call.0 call.0 parts.1, ap (λ i. lines_of i before) (eqb-true a.caller k parts.0))
+      | false ↦ λ is rest. old-number before k call asked h.1 rest
+    ] refl e
 
 -- so it isn't answered yet
 not-answered : (before : List SeenLine) (asked : List Asked) (told : List Told) (caller : ℕ) (call : CallNo) → call.0 ≡ lines_of caller before
@@ -145,10 +158,64 @@ fresh-push before w c told h number printed =
       tt,
     )
 
+-- a call of the caller was asked, and isn't answered
+pub record IsWaiting (w : Walk) (caller : ℕ) : Type 0 where
+  pub call : CallNo
+  pub asked : is_asked w.trace.asked caller call ≡ true
+  pub none : AllByRecursion (λ r. r.caller ≡ caller → r.call ≡ call → ⊥) w.trace.told
+
+-- a caller that was busy waited for an earlier call
+waits-more : (cs : List SeenCall) (c : SeenCall) (ds : List SeenCall) → AllByRecursion (IsBusyFor cs) ds → AllByRecursion (IsBusyFor (cs ++ c ∷ [])) ds
+waits-more cs c ds h =
+    all-map (IsBusyFor cs) (IsBusyFor (cs ++ c ∷ [])) ds
+    (λ d k busy. list_any-append (is_open_at d) cs (c ∷ []) ∙ ap (λ b. b || list_any (is_open_at d) (c ∷ [])) (k busy)) h
+
+waits-push : (cs : List SeenCall) (c : SeenCall) → AllByRecursion (IsBusyFor cs) cs → (c.busy ≡ true → list_any (is_open_at c) cs ≡ true)
+    → AllByRecursion (IsBusyFor (cs ++ c ∷ [])) (cs ++ c ∷ [])
+waits-push cs c h k =
+    all-append (IsBusyFor (cs ++ c ∷ [])) cs (c ∷ []) (waits-more cs c cs h)
+    ((λ busy. list_any-append (is_open_at c) cs (c ∷ []) ∙ ap (λ b. b || list_any (is_open_at c) (c ∷ [])) (k busy)), tt)
+
+-- a call that isn't answered
+no-answer : (told : List Told) (caller : ℕ) (call : CallNo) → AllByRecursion (λ r. r.caller ≡ caller → r.call ≡ call → ⊥) told
+    → first_answer (map told_answer told) caller call ≡ None
+no-answer [] caller call h = refl
+no-answer (r ∷ told) caller call h =
+    elim (r.caller == caller && r.call.0 == call.0)
+    as (λ b. (r.caller == caller && r.call.0 == call.0) ≡ b
+    → (if b then Some r.reply else first_answer (map told_answer told) caller call) ≡ None) [
+      | true ↦ λ same.
+          let parts = and_parts (r.caller == caller) (r.call.0 == call.0) same in
+          let number : r.call.0 ≡ call.0 = eqb-true r.call.0 call.0 parts.1 in
+          absurd (h.0 (eqb-true r.caller caller parts.0) (λ i. record { 0 = number i }))
+      | false ↦ λ other. no-answer told caller call h.1
+    ] refl
+
+open-call : (before : List SeenLine) (w : Walk) (c : SeenCall) (k : ℕ) (call : CallNo) → c.caller ≡ k → c.call.0 ≡ lines_of k before
+    → c.before ≡ printed_by before → is_asked w.trace.asked k call ≡ true → AllByRecursion (λ r. r.caller ≡ k → r.call ≡ call → ⊥) w.trace.told
+    → Shows before w → list_any (is_open_at c) (calls_in before) ≡ true
+open-call before w c k call e number printed asked none h =
+    any-made w.trace.told (is_open_at c) k call (calls_in before) w.trace.asked h.made asked
+    (λ d free at its.
+    let low : call.0 < lines_of k before = old-number before k call w.trace.asked h.old asked in
+    let less : nat_lt d.call.0 c.call.0 ≡ true = grind (arith, nat_tests, its, number, low) in
+    let same : (d.caller == c.caller) ≡ true = grind (arith, nat_tests, at, e) in
+    let d_call : d.call ≡ call = λ i. record { 0 = its i } in
+    let nothing : answer_in c.before d ≡ None =
+    ap (λ l. first_answer (answers_in l) d.caller d.call) (printed ∙ h.printed)
+    ∙ ap (λ l. first_answer l d.caller d.call) h.answers
+    ∙ ap (λ n. first_answer (map told_answer w.trace.told) n d.call) at
+    ∙ ap (λ (n : CallNo). first_answer (map told_answer w.trace.told) k n) d_call
+    ∙ no-answer w.trace.told k call none in
+    ap (λ b. not b && (d.caller == c.caller && (nat_lt d.call.0 c.call.0 && is_none (answer_in c.before d)))) free
+    ∙ ap (λ b. b && (nat_lt d.call.0 c.call.0 && is_none (answer_in c.before d))) same
+    ∙ ap (λ b. b && is_none (answer_in c.before d)) less
+    ∙ ap is_none nothing)
+
 pub shows-busy : (before : List SeenLine) (w v : Walk) (s : SeenLine) (caller : CallerNo) (call : CallNo) (op : Op) → s.line ≡ line.Call caller op
     → s.printed ≡ report.Busy caller call ∷ [] → v ≡ says (counted w caller) (report.Busy caller call) → caller < length w.counts
-    → AllByRecursion (IsAsked w.trace.asked) w.trace.told → Shows before w → Shows (before ++ s ∷ []) v
-shows-busy before w v s caller call op is e v_is there told h =
+    → AllByRecursion (IsAsked w.trace.asked) w.trace.told → IsWaiting w caller → Shows before w → Shows (before ++ s ∷ []) v
+shows-busy before w v s caller call op is e v_is there told open_one h =
     let c = seen_call before s.printed caller op true in
     let busy : list_any is_busy s.printed ≡ true = ap (list_any is_busy) e in
     let calls : calls_in (before ++ s ∷ []) ≡ calls_in before ++ c ∷ [] =
@@ -171,6 +238,8 @@ shows-busy before w v s caller call op is e v_is there told h =
           (all-append (IsUnmade w.trace.asked) (calls_in before) (c ∷ []) h.busy
           ((λ b. not-asked before caller c.call w.trace.asked refl h.old), tt));
       fresh = subst (AllByRecursion IsUnansweredBefore) (sym calls) (fresh-push before w c told h refl refl);
+      waits = subst (λ (l : List SeenCall). AllByRecursion (IsBusyFor l) l) (sym calls) (waits-push (calls_in before) c h.waits
+          (λ b. open-call before w c caller open_one.call refl refl refl open_one.asked open_one.none h));
     } in
     subst (Shows (before ++ s ∷ [])) (sym v_is) shown
 
@@ -241,4 +310,5 @@ shows-made before w v s caller call op a g is e a_is number there told h =
           (unmade-push before w.trace.asked a (calls_in before) a_number h.below h.busy)
           ((λ b. absurd (cc)), tt)));
       fresh = subst (AllByRecursion IsUnansweredBefore) (sym calls) (fresh-push before w c told h refl refl);
+      waits = subst (λ (l : List SeenCall). AllByRecursion (IsBusyFor l) l) (sym calls) (waits-push (calls_in before) c h.waits (λ b. absurd (cc)));
     }

@@ -2,13 +2,14 @@
 use Rattle.std.proofs.Common.{◌≡◌, ◌≤◌, inl, inr, Bool, true, false, List, [], ◌∷◌, refl}
 use Rattle.std.proofs.Common.{sym, ap, subst, ◌∙◌, arith, length}
 use Rattle.std.specs.Prelude.{map, not, ◌&&◌, ◌||◌, ◌==◌, if◌then◌else◌}
-use Rattle.std.specs.List.{AllByRecursion, list_any}
+use Rattle.std.specs.List.{AllByRecursion}
+use Rattle.std.proofs.lemmas.Bool.Decides.{nat_tests}
 use Rattle.dds_base.specs.declared.number.CallNo.{CallNo}
-use Rattle.dds_client_view.proofs.Calls.{AreMade, IsCallOf, made-all, told_answer}
+use Rattle.dds_client_view.proofs.Calls.{AreMade, IsCallOf, any-made, made-all, told_answer, made_calls}
 use Rattle.dds_client_view.proofs.Order.{IsInOrder, NoLater}
 use Rattle.dds_client_view.proofs.Sees.{HasOp, Keeps, all-mapped, answer-is, entry_in, has-at-most-one, has-none, has-one, have-ops, reply_of}
 use Rattle.dds_client_view.proofs.Sees.{IsOver}
-use Rattle.dds_client_view.proofs.Shows.{IsAsked, IsOther, IsUnmade, Shows, made_calls}
+use Rattle.dds_client_view.proofs.Shows.{IsAsked, IsOther, IsUnmade, Shows}
 use Rattle.dds_client_view.specs.Client as client
 use Rattle.dds_client_view.specs.Client.{ClientSees, HasAtMostOne, HasNone, HasOne, HasOneBy, IsOrdered, IsOrderedBy, StandsFirst, did_nothing, fate_by}
 use Rattle.dds_client_view.specs.Client.{is_entry_of, is_loss, may_be_done}
@@ -82,31 +83,14 @@ all-parts P (c ∷ cs) h k =
       | false ↦ λ e g. (g.0 e, all-parts P cs h.1 g.1)
     ] refl k
 
-to-first : (told : List Told) (r : Told) (c : SeenCall) (made : List SeenCall) (asked : List Asked) (others : Bool) → AreMade told (c ∷ made) asked
-    → IsAsked asked r → ((rest : List Asked) → AreMade told made rest → IsAsked rest r → others ≡ true)
-    → ((c.caller == r.caller && c.call.0 == r.call.0) || others) ≡ true
-to-first told r c made [] others h k f = absurd h
-to-first told r c made (a ∷ asked) others h k f =
-    let same : is_call_of r.caller r.call a ≡ (c.caller == r.caller && c.call.0 == r.call.0) =
-    ap (λ n. n == r.caller && a.call.0 == r.call.0) h.0.caller ∙ ap (λ (n : CallNo). c.caller == r.caller && n.0 == r.call.0) h.0.call in
-    elim (c.caller == r.caller && c.call.0 == r.call.0) as (λ b. is_call_of r.caller r.call a ≡ b → (b || others) ≡ true) [
-      | true ↦ λ e. refl
-      | false ↦ λ e. f asked h.1 (ap (λ b. b || is_asked asked r.caller r.call) (sym e) ∙ k)
-    ] same
-
 -- each answer is to a call of the lines
 is-to-a-call : (told : List Told) (r : Told) (calls : List SeenCall) (asked : List Asked) → AreMade told (made_calls calls) asked → IsAsked asked r
     → client.IsToACall calls (told_answer r)
-is-to-a-call told r [] [] h k = absurd (cc)
-is-to-a-call told r [] (a ∷ asked) h k = absurd h
-is-to-a-call told r (c ∷ calls) asked h k =
-    elim (c.busy)
-    as (λ b. AreMade told (if not b then c ∷ made_calls calls else made_calls calls) asked
-    → ((not b && (c.caller == r.caller && c.call.0 == r.call.0)) || list_any (is_answer_to (told_answer r)) calls) ≡ true) [
-      | true ↦ λ g. is-to-a-call told r calls asked g k
-      | false ↦ λ g. to-first told r c (made_calls calls) asked (list_any (is_answer_to (told_answer r)) calls) g k
-          (λ rest more i. is-to-a-call told r calls rest more i)
-    ] h
+is-to-a-call told r calls asked h k =
+    any-made told (is_answer_to (told_answer r)) r.caller r.call calls asked h k
+    (λ c free at its.
+    let same : (c.caller == r.caller && c.call.0 == r.call.0) ≡ true = grind (arith, nat_tests, at, its) in
+    ap (λ b. not b && (c.caller == r.caller && c.call.0 == r.call.0)) free ∙ same)
 
 -- what is so of each call of a run that stands, where each answered call is over
 keeps-all : (t : Trace) → Pairwise IsOther t.asked → Stands t → AllByRecursion (IsOver t.told (placed_history t)) t.asked
@@ -136,7 +120,7 @@ client-sees seen w h order stands over told =
     let all = stands.entries_are_calls in
     let printed : answers_in (printed_by seen) ≡ map told_answer t.told = ap answers_in h.printed ∙ h.answers in
     let keeps = keeps-all t h.apart stands over in
-    let busy : AllByRecursion (λ c. c.busy ≡ true → client.entries_of entries c ≡ []) calls =
+    let unmade : AllByRecursion (λ c. c.busy ≡ true → client.entries_of entries c ≡ []) calls =
     all-map (IsUnmade t.asked) (λ c. c.busy ≡ true → client.entries_of entries c ≡ []) calls (λ c k b. none-of c t.asked ms (k b) all) h.busy in
     let behind : (a : Asked) → Keeps t.told ms t.asked a → IsBehind ms a = λ a k.
     is-behind ms a (answer_to t.told a.caller a.call) k.answered k.refused k.unanswered in
@@ -149,32 +133,33 @@ client-sees seen w h order stands over told =
       legal = stands.legal;
       answered = all-parts (HasOne seen entries) calls
           (all-map (λ c. c.busy ≡ true → client.entries_of entries c ≡ []) (λ c. c.busy ≡ true → HasOne seen entries c) calls
-          (λ c k b. subst (λ f. HasOneBy c f (client.entries_of entries c)) (busy_fate c b) tt) busy)
+          (λ c k b. subst (λ f. HasOneBy c f (client.entries_of entries c)) (busy_fate c b) tt) unmade)
           (made-all t.told (λ c. (c.busy ≡ false) → HasOne seen entries c) (Keeps t.told ms t.asked) made t.asked
           (λ c a g k b. subst (λ f. HasOneBy c f (client.entries_of entries c)) (fate_is c a g b)
           (has-one t.told ms t.asked c a (answer_to t.told a.caller a.call) g.caller g.call g.op all k.op k.answered)) h.made keeps);
       refused = all-parts (HasNone seen entries) calls
-          (all-map (λ c. c.busy ≡ true → client.entries_of entries c ≡ []) (λ c. c.busy ≡ true → HasNone seen entries c) calls (λ c k b nothing. k b) busy)
+          (all-map (λ c. c.busy ≡ true → client.entries_of entries c ≡ []) (λ c. c.busy ≡ true → HasNone seen entries c) calls (λ c k b nothing. k b) unmade)
           (made-all t.told (λ c. (c.busy ≡ false) → HasNone seen entries c) (Keeps t.told ms t.asked) made t.asked
           (λ c a g k b. subst (λ f. did_nothing c.op f ≡ true → client.entries_of entries c ≡ []) (fate_is c a g b)
           (has-none ms c a (answer_to t.told a.caller a.call) g.caller g.call g.op k.refused k.over)) h.made keeps);
       unanswered = all-parts (HasAtMostOne seen entries) calls
           (all-map (λ c. c.busy ≡ true → client.entries_of entries c ≡ []) (λ c. c.busy ≡ true → HasAtMostOne seen entries c) calls
-          (λ c k b may. omega (arith, ap length (k b))) busy)
+          (λ c k b may. omega (arith, ap length (k b))) unmade)
           (made-all t.told (λ c. (c.busy ≡ false) → HasAtMostOne seen entries c) (Keeps t.told ms t.asked) made t.asked
           (λ c a g k b. subst (λ f. may_be_done c.op f ≡ true → length (client.entries_of entries c) ≤ 1) (fate_is c a g b)
           (has-at-most-one ms c a (answer_to t.told a.caller a.call) g.caller g.call g.op k.unanswered)) h.made keeps);
       others = all-mapped (IsOfACall t.asked) (client.IsOfACall calls) entry_in ms (λ m k. of-made t.told calls t.asked m h.made k) all;
       ordered = all-parts (λ d. AllByRecursion (λ c. IsOrdered entries c d) calls) calls
           (all-map (λ d. d.busy ≡ true → client.entries_of entries d ≡ []) (λ d. d.busy ≡ true → AllByRecursion (λ c. IsOrdered entries c d) calls) calls
-          (λ d k b. all-of (λ c. IsOrdered entries c d) calls (λ c. ordered-where c d entries (answer_in d.before c) (none-last c d entries (k b)))) busy)
+          (λ d k b. all-of (λ c. IsOrdered entries c d) calls (λ c. ordered-where c d entries (answer_in d.before c) (none-last c d entries (k b)))) unmade)
           (made-all t.told (λ d. (d.busy ≡ false) → AllByRecursion (λ c. IsOrdered entries c d) calls) (Keeps t.told ms t.asked) made t.asked
           (λ d b g k not_busy. all-parts (λ c. IsOrdered entries c d) calls
           (all-map (λ c. c.busy ≡ true → client.entries_of entries c ≡ []) (λ c. c.busy ≡ true → IsOrdered entries c d) calls
-          (λ c none is. ordered-where c d entries (answer_in d.before c) (none-first c d entries (none is))) busy)
+          (λ c none is. ordered-where c d entries (answer_in d.before c) (none-first c d entries (none is))) unmade)
           (made-all t.told (λ c. (c.busy ≡ false) → IsOrdered entries c d) (Keeps t.told ms t.asked) made t.asked
           (λ c a f j other. ordered-two t.told ms c d a b f g in_order j.answered j.refused j.over (behind b k)) h.made keeps)) h.made keeps);
       answers = subst (AllByRecursion (client.IsToACall calls)) (sym printed)
           (all-mapped (IsAsked t.asked) (client.IsToACall calls) told_answer t.told (λ r k. is-to-a-call t.told r calls t.asked h.made k) told);
       behind = h.fresh;
+      busy = h.waits;
     }

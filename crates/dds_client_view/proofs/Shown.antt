@@ -50,6 +50,7 @@ shows-first script =
       made = tt;
       busy = tt;
       fresh = tt;
+      waits = tt;
     }
 
 walked-all : (o : OpeningOf) (limit : ℕ) (w : Walk) (ls : List Line) → o.bricks ≤ 64 → AllByRecursion (IsInRanges (ranges_of o)) ls → IsWalked o w
@@ -139,5 +140,5 @@ is-shown script opening h stands =
             ∙ ap printed_by (seen-take EVENTS first n script.lines);
       };
       sees = client-sees seen v shows in_order stand (are-over v.trace ended stand.entries_are_calls (have-ops v.trace.asked shows.apart))
-          (all-told o v opening walked);
+          (all-told v ended);
     }

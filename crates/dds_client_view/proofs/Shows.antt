@@ -6,9 +6,9 @@ use Rattle.std.specs.List.{AllByRecursion}
 use Rattle.std.proofs.lemmas.Grind.{flat_map-append}
 use Rattle.std.proofs.lemmas.List.{append-nil, length-append, map-append}
 use Rattle.std.proofs.lemmas.List.Elements.{filter-append}
-use Rattle.dds_client_view.proofs.Calls.{AreMade, IsBefore, made-later, told_answer}
+use Rattle.dds_client_view.proofs.Calls.{AreMade, IsBefore, made-later, told_answer, made_calls}
 use Rattle.dds_client_view.proofs.Prints.{IsAside, Prints}
-use Rattle.dds_client_view.specs.Client.{IsUnansweredBefore}
+use Rattle.dds_client_view.specs.Client.{IsBusyFor, IsUnansweredBefore}
 use Rattle.dds_client_view.specs.Law.{body, is_last}
 use Rattle.dds_client_view.specs.Seen.{SeenCall, SeenLine, answer_on, answers_in, call_of, calls_behind, calls_in, is_line_of, lines_of, printed_by}
 use Rattle.dds_cluster.specs.Lists.{is_asked}
@@ -20,10 +20,6 @@ use Rattle.dds_script.specs.declared.line.Line.{Line}
 use Rattle.dds_script.specs.declared.line.Line.TheVariants as line
 use Rattle.dds_transcript.specs.declared.report_line.ReportLine.{ReportLine}
 use Rattle.dds_walk.specs.declared.walk.Walk.{Walk}
-
--- the calls whose callers weren't busy
-abbrev pub made_calls : List SeenCall → List SeenCall
-made_calls calls = filter (λ c. not c.busy) calls
 
 -- a call whose caller was busy was never made
 abbrev pub IsUnmade : List Asked → SeenCall → Type 0
@@ -57,6 +53,7 @@ IsOther a b = a.caller ≡ b.caller → a.call.0 ≡ b.call.0 → ⊥
 -- |                             | before its line                                                                                |
 -- | `busy`                      | a call whose caller was busy was never made                                                    |
 -- | `fresh`                     | no call was answered before its line                                                           |
+-- | `waits`                     | a caller was busy only where an earlier call of it was open                                    |
 pub record Shows (before : List SeenLine) (w : Walk) : Type 0 where
   pub printed : printed_by before ≡ w.lines
   pub answers : answers_in w.lines ≡ map told_answer w.trace.told
@@ -69,6 +66,7 @@ pub record Shows (before : List SeenLine) (w : Walk) : Type 0 where
   pub made : AreMade w.trace.told (made_calls (calls_in before)) w.trace.asked
   pub busy : AllByRecursion (IsUnmade w.trace.asked) (calls_in before)
   pub fresh : AllByRecursion IsUnansweredBefore (calls_in before)
+  pub waits : AllByRecursion (IsBusyFor (calls_in before)) (calls_in before)
 
 -- one line more
 pub printed-push : (before : List SeenLine) (s : SeenLine) → printed_by (before ++ s ∷ []) ≡ printed_by before ++ s.printed
@@ -169,4 +167,5 @@ shows-aside before w v s g e aside h =
       busy = subst (λ (l : List SeenCall). AllByRecursion (IsUnmade v.trace.asked) l) (sym calls)
           (subst (λ (l : List Asked). AllByRecursion (IsUnmade l) (calls_in before)) (sym asked) h.busy);
       fresh = subst (AllByRecursion IsUnansweredBefore) (sym calls) h.fresh;
+      waits = subst (λ (l : List SeenCall). AllByRecursion (IsBusyFor l) l) (sym calls) h.waits;
     }

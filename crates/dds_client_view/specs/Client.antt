@@ -1,5 +1,5 @@
 -- What is promised to somebody who only uses the table.
-use Rattle.std.specs.Prelude.{not, ◌||◌, ◌≡◌, ◌≤◌, ◌⊎◌, Bool, true, false, ◌&&◌, ◌==◌, List, [], ◌∷◌, Option, Some, None, filter, length}
+use Rattle.std.specs.Prelude.{nat_lt, is_none, not, ◌||◌, ◌≡◌, ◌≤◌, ◌⊎◌, Bool, true, false, ◌&&◌, ◌==◌, List, [], ◌∷◌, Option, Some, None, filter, length}
 use Rattle.std.specs.List.{AllByRecursion, list_any}
 use Rattle.dds_base.specs.Op.{is_get}
 use Rattle.dds_base.specs.declared.op.Op.{Op}
@@ -106,11 +106,20 @@ IsToACall calls r = list_any (is_answer_to r) calls ≡ true
 abbrev pub IsUnansweredBefore : SeenCall → Type 0
 IsUnansweredBefore c = answer_in c.before c ≡ None
 
+-- the second call was open when the line of the first one stood
+abbrev pub is_open_at : SeenCall → SeenCall → Bool
+is_open_at c d = not d.busy && (d.caller == c.caller && (nat_lt d.call.0 c.call.0 && is_none (answer_in c.before d)))
+
+-- a caller is busy only where an earlier call of it was open
+abbrev pub IsBusyFor : List SeenCall → SeenCall → Type 0
+IsBusyFor calls c = c.busy ≡ true → list_any (is_open_at c) calls ≡ true
+
 -- What a script and what it printed show: the calls stand in a list of entries, which is legal for one map from the empty one on. A call
 -- that was answered with a result has exactly one entry there, with its operation and that reply. One that was answered Again or
 -- Full, one whose caller was busy and a get that is still open have none. An update that was answered Lost, or is still open, has at
 -- most one. There are no others. And where a call's answer was printed before another call's line stood, its entry, if it has one, comes
--- first. Each answer that was printed is to one of the calls whose callers weren't busy, and none stands before its call's line.
+-- first. Each answer that was printed is to one of the calls whose callers weren't busy, and none stands before its call's line; and a
+-- caller is busy only where an earlier call of it isn't answered yet.
 pub record ClientSees (seen : List SeenLine) : Type 0 where
   pub entries : List Entry
   pub legal : IsLegal entries
@@ -121,3 +130,4 @@ pub record ClientSees (seen : List SeenLine) : Type 0 where
   pub ordered : AllByRecursion (λ d. AllByRecursion (λ c. IsOrdered entries c d) (calls_in seen)) (calls_in seen)
   pub answers : AllByRecursion (IsToACall (calls_in seen)) (answers_in (printed_by seen))
   pub behind : AllByRecursion IsUnansweredBefore (calls_in seen)
+  pub busy : AllByRecursion (IsBusyFor (calls_in seen)) (calls_in seen)
