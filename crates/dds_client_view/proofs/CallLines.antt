@@ -177,7 +177,7 @@ waits-push cs c h k =
     ((λ busy. list_any-append (is_open_at c) cs (c ∷ []) ∙ ap (λ b. b || list_any (is_open_at c) (c ∷ [])) (k busy)), tt)
 
 -- a call that isn't answered
-no-answer : (told : List Told) (caller : ℕ) (call : CallNo) → AllByRecursion (λ r. r.caller ≡ caller → r.call ≡ call → ⊥) told
+pub no-answer : (told : List Told) (caller : ℕ) (call : CallNo) → AllByRecursion (λ r. r.caller ≡ caller → r.call ≡ call → ⊥) told
     → first_answer (map told_answer told) caller call ≡ None
 no-answer [] caller call h = refl
 no-answer (r ∷ told) caller call h =

@@ -11,7 +11,7 @@ use Rattle.dds_client_view.proofs.Sees.{HasOp, Keeps, all-mapped, answer-is, ent
 use Rattle.dds_client_view.proofs.Sees.{IsOver}
 use Rattle.dds_client_view.proofs.Shows.{IsAsked, IsOther, IsUnmade, Shows}
 use Rattle.dds_client_view.specs.Client as client
-use Rattle.dds_client_view.specs.Client.{ClientSees, HasAtMostOne, HasNone, HasOne, HasOneBy, IsOrdered, IsOrderedBy, StandsFirst, did_nothing, fate_by}
+use Rattle.dds_client_view.specs.Client.{AreToOthers, ClientSees, HasAtMostOne, HasNone, HasOne, HasOneBy, IsOrdered, IsOrderedBy, StandsFirst, did_nothing, fate_by}
 use Rattle.dds_client_view.specs.Client.{is_entry_of, is_loss, may_be_done}
 use Rattle.dds_client_view.specs.Seen.{is_answer_to, SeenCall, SeenLine, answer_in, answers_in, calls_in, printed_by}
 use Rattle.dds_cluster.specs.Lists.{is_asked, is_call_of}
@@ -24,6 +24,8 @@ use Rattle.dds_net.proofs.Pairwise.{Pairwise, pairs-filter}
 use Rattle.dds_walk.specs.declared.walk.Walk.{Walk}
 use Rattle.dds_world.specs.Stands.{AnsweredOnce, IsOfACall, RefusedNever, Stands, UnansweredOnceOrNever}
 use Rattle.dds_world.specs.Stands.{answer_to, placed_history, stands_in}
+use Rattle.dds_client_view.proofs.CallLines.{no-answer}
+use Rattle.dds_client_view.proofs.Once.{OtherTold}
 use Rattle.dds_client_view.proofs.Ordered.{IsBehind, is_of, is-behind, none-first, none-last, ordered-where, ordered-two}
 
 -- an entry isn't of a call that was never made
@@ -92,6 +94,14 @@ is-to-a-call told r calls asked h k =
     let same : (c.caller == r.caller && c.call.0 == r.call.0) ≡ true = grind (arith, nat_tests, at, its) in
     ap (λ b. not b && (c.caller == r.caller && c.call.0 == r.call.0)) free ∙ same)
 
+-- no call is answered twice
+to-others : (told : List Told) → Pairwise OtherTold told → AreToOthers (map told_answer told)
+to-others [] h = tt
+to-others (r ∷ told) h = (
+  no-answer told r.caller r.call (all-map (OtherTold r) (λ x. x.caller ≡ r.caller → x.call ≡ r.call → ⊥) told (λ x other same number. other (sym same) (sym number)) h.0),
+  to-others told h.1,
+)
+
 -- what is so of each call of a run that stands, where each answered call is over
 keeps-all : (t : Trace) → Pairwise IsOther t.asked → Stands t → AllByRecursion (IsOver t.told (placed_history t)) t.asked
     → AllByRecursion (Keeps t.told (placed_history t) t.asked) t.asked
@@ -109,8 +119,8 @@ keeps-all t apart stands over =
 
 -- a run that stands, and the lines that made it
 pub client-sees : (seen : List SeenLine) (w : Walk) → Shows seen w → IsInOrder w.trace → Stands w.trace
-    → AllByRecursion (IsOver w.trace.told (placed_history w.trace)) w.trace.asked → AllByRecursion (IsAsked w.trace.asked) w.trace.told → ClientSees seen
-client-sees seen w h order stands over told =
+    → AllByRecursion (IsOver w.trace.told (placed_history w.trace)) w.trace.asked → AllByRecursion (IsAsked w.trace.asked) w.trace.told → Pairwise OtherTold w.trace.told → ClientSees seen
+client-sees seen w h order stands over told apart =
     let t = w.trace in
     let ms = placed_history t in
     let entries = map entry_in ms in
@@ -160,6 +170,7 @@ client-sees seen w h order stands over told =
           (λ c a f j other. ordered-two t.told ms c d a b f g in_order j.answered j.refused j.over (behind b k)) h.made keeps)) h.made keeps);
       answers = subst (AllByRecursion (client.IsToACall calls)) (sym printed)
           (all-mapped (IsAsked t.asked) (client.IsToACall calls) told_answer t.told (λ r k. is-to-a-call t.told r calls t.asked h.made k) told);
+      once = subst AreToOthers (sym printed) (to-others t.told apart);
       behind = h.fresh;
       busy = h.waits;
     }

@@ -21,6 +21,8 @@ use Rattle.dds_calls.proofs.Treats.{Answers, library-treats}
 use Rattle.dds_client_view.proofs.Asked.{OpenIsAsked, asked-last, asked-more, none-open, open-then}
 use Rattle.dds_client_view.proofs.Order.{IsAt, made-at}
 use Rattle.dds_cluster.specs.Lists.{is_asked}
+use Rattle.dds_client_view.proofs.Once.{OtherReply, OtherTold, no-calls-apart, one-answer-apart, told-apart, turn-apart}
+use Rattle.dds_net.proofs.Pairwise.{Pairwise, pairs-append}
 use Rattle.dds_client_view.proofs.Shut.{ReplySays, replies-shut, told-says}
 use Rattle.dds_client_view.specs.Client.{is_loss}
 use Rattle.dds_cluster.specs.Trace.{all_kept, is_run, run_of, start, told_at}
@@ -48,7 +50,7 @@ use Rattle.dds_once.proofs.Opens.{IsOpenPoint, open-shut, points-open}
 use Rattle.dds_once.proofs.Requests.{OfCall}
 use Rattle.dds_once.proofs.Shut.{IsShut, shut-later}
 use Rattle.dds_once.proofs.Start.{start-once}
-use Rattle.dds_once.proofs.Used.{IsNew, IsUsed, asked-new, free-unused, opens-used}
+use Rattle.dds_once.proofs.Used.{IsNew, IsUsed, asked-new, free-unused, may-free, opens-used}
 use Rattle.dds_outcomes.proofs.Points.{kept-all}
 use Rattle.dds_script.specs.Opening.{IsOpening, OpeningOf}
 use Rattle.dds_states.specs.declared.library_state.LibraryState.{LibraryState}
@@ -83,6 +85,7 @@ pub record Ends (cs : List Caller) (asked : List Asked) (made : List trace.Made)
 
 pub record AreEnded (h : History) : Type 0 where
   pub open_calls : OpenIsAsked h.callers h.asked
+  pub apart : Pairwise OtherTold h.told
   pub places : AllByRecursion (λ (m : trace.Made). m.place < h.steps) h.made
   pub ends : AllByRecursion (Ends h.callers h.asked h.made) h.told
 
@@ -138,6 +141,12 @@ module _ (z : Sizes) (few : z.bricks ≤ 64) (some : z.libraries ≤ 16) (h : Hi
     loses-by from l r (result e) = λ is_lost. absurd (no-loss r (result-no-loss r e) is_lost)
     loses-by from l r (was_full waiting brick p e) = λ is_lost. absurd (no-loss r (ap is_loss (sym e)) is_lost)
     loses-by from l r (met m w e) = λ is_lost. absurd (no-loss r (ap is_loss (sym e)) is_lost)
+
+    not-shut : IsShut h.callers c.request.caller c.request.call → ⊥
+    not-shut shut =
+        let owned = all-is (IsOwned h.callers at) s.calls place c (own-calls z h n b at s k here).owned is in
+        let who : owned.caller ≡ shut.who = (let two : Some owned.caller ≡ Some shut.who = sym owned.there ∙ shut.there in cc) in
+        shut.shut (ap (λ (x : Caller). x.call) (sym who) ∙ owned.call)
 
   -- what is so of each call that an event answers
   abbrev Answered : Event → ℕ → CallNo → Reply → Type 0
@@ -196,6 +205,37 @@ module _ (z : Sizes) (few : z.bricks ≤ 64) (some : z.libraries ≤ 16) (h : Hi
       no-calls _ (Answered (brick_told at o s)) (brick_input s o).out.replies (order-tells {L = λ to l. ⊥} s o).replies
   answers other f places = tt
 
+  -- it wasn't answered before
+  abbrev NotShut : ℕ → CallNo → Reply → Type 0
+  NotShut i call r = IsShut h.callers i call → ⊥
+
+  fresh-answers : (e : Event) → Fits z h.callers n e → AllByRecursion (ReplySays NotShut) (replies_of e)
+  fresh-answers (library_takes at from l s) f =
+      let own = own-calls z h n b at s k f.here in
+      let t = library-treats s from l f.live (differ s.calls own.apart) (made-all s.next s.calls own.below) in
+      all-map (Answers s from l) (ReplySays NotShut) (live_library_turn s from l).out.replies
+      (λ r w. subst (ReplySays NotShut) (sym w.is) (not-shut at s f.here w.by.index w.by.call w.by.there)) t.replies
+  fresh-answers (library_asked at caller call o s) f =
+      let t = begin (desk_of s s.calls) (new_request caller call o) in
+      began NotShut caller call (record { library = s.number; number = s.next }) t.went.reply
+      (λ x is shut.
+      free-unused h.callers caller caller call call (may-free h.callers caller at call f.may)
+      (record { who = shut.who; there = shut.there; past = shut.past }) refl refl)
+  fresh-answers (brick_takes at from l s) f = no-calls _ NotShut (live_brick_turn s from l).out.replies (letter-tells s from l).replies
+  fresh-answers (brick_told at o s) f = no-calls _ NotShut (brick_input s o).out.replies (order-tells {L = λ to l. ⊥} s o).replies
+  fresh-answers other f = tt
+
+  -- nor by this event
+  replies-apart : (e : Event) → Fits z h.callers n e → Pairwise OtherReply (replies_of e)
+  replies-apart (library_takes at from l s) f = turn-apart h.callers at s from l (own-calls z h n b at s k f.here)
+  replies-apart (library_asked at caller call o s) f =
+      one-answer-apart caller call (record { library = s.number; number = s.next }) (begin (desk_of s s.calls) (new_request caller call o)).went.reply
+  replies-apart (brick_takes at from l s) f =
+      no-calls-apart (live_brick_turn s from l).out.replies (no-calls _ (λ i call r. ⊥) (live_brick_turn s from l).out.replies (letter-tells s from l).replies)
+  replies-apart (brick_told at o s) f =
+      no-calls-apart (brick_input s o).out.replies (no-calls _ (λ i call r. ⊥) (brick_input s o).out.replies (order-tells {L = λ to l. ⊥} s o).replies)
+  replies-apart other f = tt
+
   -- an answer that was given before
   still-ends : (e : Event) (r : Told) → Fits z h.callers n e → Ends h.callers h.asked h.made r → Ends (goes h e).callers (goes h e).asked (goes h e).made r
   still-ends e r f g =
@@ -213,6 +253,13 @@ module _ (z : Sizes) (few : z.bricks ≤ 64) (some : z.libraries ≤ 16) (h : Hi
         was_asked = asked-more h.asked (asked_of h.steps e) r.caller r.call g.was_asked;
       }
 
+  other-answers : (e : Event) (r : Told) → Fits z h.callers n e → Ends h.callers h.asked h.made r
+      → AllByRecursion (OtherTold r) (told_at h.steps (replies_of e))
+  other-answers e r f g =
+      told-says NotShut (OtherTold r) h.steps (replies_of e)
+      (λ x place fresh same number. fresh (subst (λ i. IsShut h.callers i x.call) same (subst (IsShut h.callers r.caller) number g.shut)))
+      (fresh-answers e f)
+
   pub ended-then : (e : Event) → Fits z h.callers n e → AreEnded h → AreEnded (goes h e)
   ended-then e f g =
       let cs = (goes h e).callers in
@@ -222,6 +269,9 @@ module _ (z : Sizes) (few : z.bricks ≤ 64) (some : z.libraries ≤ 16) (h : Hi
       LosesUpdate asked i call r × AllByRecursion (IsEarlier h.steps i call) made × (is_asked asked i call ≡ true) in
       record {
         open_calls = open-then h e g.open_calls;
+        apart = pairs-append OtherTold h.told (told_at h.steps (replies_of e)) g.apart (told-apart h.steps (replies_of e) (replies-apart e f))
+            (all-map (Ends h.callers h.asked h.made) (λ r. AllByRecursion (OtherTold r) (told_at h.steps (replies_of e))) h.told
+            (λ r q. other-answers e r f q) g.ends);
         places = all-append (λ (m : trace.Made). m.place < h.steps + 1) h.made (all_kept h.made (points_of h.steps e))
             (all-map (λ (m : trace.Made). m.place < h.steps) (λ (m : trace.Made). m.place < h.steps + 1) h.made (λ m p. omega (arith, p)) g.places)
             (kept-all (λ (m : trace.Made). m.place < h.steps + 1) h.made (points_of h.steps e)
@@ -253,4 +303,4 @@ run-ended o journal h run =
     (kept-over z ((Book × talk.Books) × Unit {0}) (both_books (λ i n e b. (booked e b.0, talk.adds i n e b.1)) (λ i n e b u. tt))
     (Both (Stands z) (AreOnceOver z)) (Unit {0}) (λ i n e b u. tt) (λ i n b u. AreEnded i) low
     (λ i n e b u built f k after g. ended-then z few some i n b.0 built k.0 k.1 g.open_calls e f g))
-    (record { sized = first.sized; books = (first.books, tt); is = (first.is, record { open_calls = λ k x call e f. absurd (none-open o.libraries o.callers 0 k x call e f); places = tt; ends = tt }) }) run).is.1
+    (record { sized = first.sized; books = (first.books, tt); is = (first.is, record { open_calls = λ k x call e f. absurd (none-open o.libraries o.callers 0 k x call e f); apart = tt; places = tt; ends = tt }) }) run).is.1

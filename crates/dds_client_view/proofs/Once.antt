@@ -15,16 +15,15 @@ use Rattle.dds_client_view.proofs.Shut.{ReplySays}
 use Rattle.dds_cluster.specs.Trace.{all_closed, closed_by, closes, told_at}
 use Rattle.dds_cluster.specs.declared.trace.Caller.{Caller}
 use Rattle.dds_cluster.specs.declared.trace.Told.{Told}
-use Rattle.dds_core.proofs.CallTurns.{Concerns, OneKeeps, heard, library-keeps, one_call}
-use Rattle.dds_core.proofs.Lists.{all-append, all-is, all-map}
+use Rattle.dds_core.proofs.CallTurns.{OneKeeps, heard, library-keeps}
+use Rattle.dds_core.proofs.Lists.{all-append, all-is}
 use Rattle.dds_core.specs.LibraryTurn.{call_row, desk_of, learns, live_library_turn, replies_of}
 use Rattle.dds_letters.specs.declared.letter.Letter.{Letter}
 use Rattle.dds_letters.specs.declared.letter.Letter.TheVariants as letter
 use Rattle.dds_net.proofs.Nodes.{get-set-other, get-set-same}
 use Rattle.dds_net.proofs.Pairwise.{Pairwise, pairs-append}
-use Rattle.dds_states.specs.Turn.{both, no_out}
+use Rattle.dds_states.specs.Turn.{no_out}
 use Rattle.dds_states.specs.declared.library_state.LibraryState.{LibraryState}
-use Rattle.dds_states.specs.declared.library_state.OpenCall.{OpenCall}
 use Rattle.dds_states.specs.declared.turn.CoreTurn.{CoreTurn}
 use Rattle.dds_states.specs.declared.turn.Replied.{Replied}
 use Rattle.dds_states.specs.declared.turn.Replied.TheVariants as replied

@@ -140,5 +140,5 @@ is-shown script opening h stands =
             ∙ ap printed_by (seen-take EVENTS first n script.lines);
       };
       sees = client-sees seen v shows in_order stand (are-over v.trace ended stand.entries_are_calls (have-ops v.trace.asked shows.apart))
-          (all-told v ended);
+          (all-told v ended) ended.apart;
     }

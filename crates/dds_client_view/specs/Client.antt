@@ -7,7 +7,7 @@ use Rattle.dds_base.specs.declared.op.Reply.{Reply}
 use Rattle.dds_base.specs.declared.op.Reply.TheVariants as reply
 use Rattle.dds_history.specs.History.{IsLegal}
 use Rattle.dds_history.specs.declared.entry.Entry.{Entry}
-use Rattle.dds_client_view.specs.Seen.{SeenAnswer, SeenCall, SeenLine, answer_in, answers_in, calls_in, is_answer_to, printed_by}
+use Rattle.dds_client_view.specs.Seen.{SeenAnswer, SeenCall, SeenLine, answer_in, answers_in, calls_in, first_answer, is_answer_to, printed_by}
 
 -- what became of a call by the end: its caller was busy, or it was answered, or it is still open
 pub data Fate : Type 0 where
@@ -106,6 +106,11 @@ IsToACall calls r = list_any (is_answer_to r) calls ≡ true
 abbrev pub IsUnansweredBefore : SeenCall → Type 0
 IsUnansweredBefore c = answer_in c.before c ≡ None
 
+-- no call is answered twice
+abbrev pub AreToOthers : List SeenAnswer → Type 0
+AreToOthers [] = Unit {0}
+AreToOthers (r ∷ rs) = (first_answer rs r.caller r.call ≡ None) × AreToOthers rs
+
 -- the second call was open when the line of the first one stood
 abbrev pub is_open_at : SeenCall → SeenCall → Bool
 is_open_at c d = not d.busy && (d.caller == c.caller && (nat_lt d.call.0 c.call.0 && is_none (answer_in c.before d)))
@@ -129,5 +134,6 @@ pub record ClientSees (seen : List SeenLine) : Type 0 where
   pub others : AllByRecursion (IsOfACall (calls_in seen)) entries
   pub ordered : AllByRecursion (λ d. AllByRecursion (λ c. IsOrdered entries c d) (calls_in seen)) (calls_in seen)
   pub answers : AllByRecursion (IsToACall (calls_in seen)) (answers_in (printed_by seen))
+  pub once : AreToOthers (answers_in (printed_by seen))
   pub behind : AllByRecursion IsUnansweredBefore (calls_in seen)
   pub busy : AllByRecursion (IsBusyFor (calls_in seen)) (calls_in seen)

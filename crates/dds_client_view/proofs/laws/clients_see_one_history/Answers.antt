@@ -1,4 +1,3 @@
-use Rattle.dds_client_view.proofs.Once.{turn-apart}
 use Rattle.dds_client_view.proofs.Shown.{is-shown}
 use Rattle.dds_client_view.proofs.laws.clients_see_one_history.Goals as goal
 
