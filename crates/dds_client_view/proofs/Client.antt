@@ -11,7 +11,7 @@ use Rattle.dds_client_view.proofs.Sees.{HasOp, Keeps, all-mapped, answer-is, ent
 use Rattle.dds_client_view.proofs.Sees.{IsOver}
 use Rattle.dds_client_view.proofs.Shows.{IsAsked, IsOther, IsUnmade, Shows}
 use Rattle.dds_client_view.specs.Client as client
-use Rattle.dds_client_view.specs.Client.{AreToOthers, ClientSees, HasAtMostOne, HasNone, HasOne, HasOneBy, IsOrdered, IsOrderedBy, StandsFirst, did_nothing, fate_by}
+use Rattle.dds_client_view.specs.Client.{AnswersFit, AreToOthers, ClientSees, HasAtMostOne, HasNone, HasOne, HasOneBy, IsOrdered, IsOrderedBy, StandsFirst, did_nothing, fate_by}
 use Rattle.dds_client_view.specs.Client.{is_entry_of, is_loss, may_be_done}
 use Rattle.dds_client_view.specs.Seen.{is_answer_to, SeenCall, SeenLine, answer_in, answers_in, calls_in, printed_by}
 use Rattle.dds_cluster.specs.Lists.{is_asked, is_call_of}
@@ -119,8 +119,8 @@ keeps-all t apart stands over =
 
 -- a run that stands, and the lines that made it
 pub client-sees : (seen : List SeenLine) (w : Walk) → Shows seen w → IsInOrder w.trace → Stands w.trace
-    → AllByRecursion (IsOver w.trace.told (placed_history w.trace)) w.trace.asked → AllByRecursion (IsAsked w.trace.asked) w.trace.told → Pairwise OtherTold w.trace.told → ClientSees seen
-client-sees seen w h order stands over told apart =
+    → AllByRecursion (IsOver w.trace.told (placed_history w.trace)) w.trace.asked → ClientSees seen
+client-sees seen w h order stands over =
     let t = w.trace in
     let ms = placed_history t in
     let entries = map entry_in ms in
@@ -168,6 +168,16 @@ client-sees seen w h order stands over told apart =
           (λ c none is. ordered-where c d entries (answer_in d.before c) (none-first c d entries (none is))) unmade)
           (made-all t.told (λ c. (c.busy ≡ false) → IsOrdered entries c d) (Keeps t.told ms t.asked) made t.asked
           (λ c a f j other. ordered-two t.told ms c d a b f g in_order j.answered j.refused j.over (behind b k)) h.made keeps)) h.made keeps);
+    }
+
+-- what is printed is in order
+pub answers-fit : (seen : List SeenLine) (w : Walk) → Shows seen w → AllByRecursion (IsAsked w.trace.asked) w.trace.told → Pairwise OtherTold w.trace.told
+    → AnswersFit seen
+answers-fit seen w h told apart =
+    let t = w.trace in
+    let calls = calls_in seen in
+    let printed : answers_in (printed_by seen) ≡ map told_answer t.told = ap answers_in h.printed ∙ h.answers in
+    record {
       answers = subst (AllByRecursion (client.IsToACall calls)) (sym printed)
           (all-mapped (IsAsked t.asked) (client.IsToACall calls) told_answer t.told (λ r k. is-to-a-call t.told r calls t.asked h.made k) told);
       once = subst AreToOthers (sym printed) (to-others t.told apart);

@@ -6,7 +6,7 @@ use Rattle.std.specs.List.{AllByRecursion}
 use Rattle.std.proofs.lemmas.List.{append-nil, length-replicate}
 use Rattle.std.proofs.lemmas.List.Elements.{filter-append}
 use Rattle.dds_base.specs.declared.number.CallNo.{CallNo}
-use Rattle.dds_client_view.proofs.Client.{client-sees}
+use Rattle.dds_client_view.proofs.Client.{answers-fit, client-sees}
 use Rattle.dds_client_view.proofs.Lines.{all-told, walk-ended, seen_between, shows-lines}
 use Rattle.dds_client_view.proofs.Over.{are-over}
 use Rattle.dds_client_view.proofs.Sees.{have-ops}
@@ -139,6 +139,6 @@ is-shown script opening h stands =
             body-printed (record { opening = o; lines = take n script.lines }) opening (all-take (IsInRanges (ranges_of o)) n script.lines h.lines)
             ∙ ap printed_by (seen-take EVENTS first n script.lines);
       };
-      sees = client-sees seen v shows in_order stand (are-over v.trace ended stand.entries_are_calls (have-ops v.trace.asked shows.apart))
-          (all-told v ended) ended.apart;
+      sees = client-sees seen v shows in_order stand (are-over v.trace ended stand.entries_are_calls (have-ops v.trace.asked shows.apart));
+      fits = answers-fit seen v shows (all-told v ended) ended.apart;
     }

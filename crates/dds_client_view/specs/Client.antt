@@ -99,10 +99,25 @@ IsOrderedBy c d entries (Some reply) = StandsFirst c d entries
 abbrev pub IsOrdered : List Entry → SeenCall → SeenCall → Type 0
 IsOrdered entries c d = IsOrderedBy c d entries (answer_in d.before c)
 
--- each answer is to a call that was made, and was printed behind its line
+-- What a script and what it printed show: the calls stand in a list of entries, which is legal for one map from the empty one on. A call
+-- that was answered with a result has exactly one entry there, with its operation and that reply. One that was answered Again or
+-- Full, one whose caller was busy and a get that is still open have none. An update that was answered Lost, or is still open, has at
+-- most one. There are no others. And where a call's answer was printed before another call's line stood, its entry, if it has one, comes
+-- first.
+pub record ClientSees (seen : List SeenLine) : Type 0 where
+  pub entries : List Entry
+  pub legal : IsLegal entries
+  pub answered : AllByRecursion (HasOne seen entries) (calls_in seen)
+  pub refused : AllByRecursion (HasNone seen entries) (calls_in seen)
+  pub unanswered : AllByRecursion (HasAtMostOne seen entries) (calls_in seen)
+  pub others : AllByRecursion (IsOfACall (calls_in seen)) entries
+  pub ordered : AllByRecursion (λ d. AllByRecursion (λ c. IsOrdered entries c d) (calls_in seen)) (calls_in seen)
+
+-- an answer is to one of the calls, whose caller wasn't busy
 abbrev pub IsToACall : List SeenCall → SeenAnswer → Type 0
 IsToACall calls r = list_any (is_answer_to r) calls ≡ true
 
+-- no answer to the call was printed before its line stood
 abbrev pub IsUnansweredBefore : SeenCall → Type 0
 IsUnansweredBefore c = answer_in c.before c ≡ None
 
@@ -119,20 +134,9 @@ is_open_at c d = not d.busy && (d.caller == c.caller && (nat_lt d.call.0 c.call.
 abbrev pub IsBusyFor : List SeenCall → SeenCall → Type 0
 IsBusyFor calls c = c.busy ≡ true → list_any (is_open_at c) calls ≡ true
 
--- What a script and what it printed show: the calls stand in a list of entries, which is legal for one map from the empty one on. A call
--- that was answered with a result has exactly one entry there, with its operation and that reply. One that was answered Again or
--- Full, one whose caller was busy and a get that is still open have none. An update that was answered Lost, or is still open, has at
--- most one. There are no others. And where a call's answer was printed before another call's line stood, its entry, if it has one, comes
--- first. Each answer that was printed is to one of the calls whose callers weren't busy, and none stands before its call's line; and a
--- caller is busy only where an earlier call of it isn't answered yet.
-pub record ClientSees (seen : List SeenLine) : Type 0 where
-  pub entries : List Entry
-  pub legal : IsLegal entries
-  pub answered : AllByRecursion (HasOne seen entries) (calls_in seen)
-  pub refused : AllByRecursion (HasNone seen entries) (calls_in seen)
-  pub unanswered : AllByRecursion (HasAtMostOne seen entries) (calls_in seen)
-  pub others : AllByRecursion (IsOfACall (calls_in seen)) entries
-  pub ordered : AllByRecursion (λ d. AllByRecursion (λ c. IsOrdered entries c d) (calls_in seen)) (calls_in seen)
+-- What is printed is in order: each answer is to one of the calls whose callers weren't busy, no call is answered twice, or before its line;
+-- and a caller is busy only where an earlier call of it isn't answered yet.
+pub record AnswersFit (seen : List SeenLine) : Type 0 where
   pub answers : AllByRecursion (IsToACall (calls_in seen)) (answers_in (printed_by seen))
   pub once : AreToOthers (answers_in (printed_by seen))
   pub behind : AllByRecursion IsUnansweredBefore (calls_in seen)

@@ -4,7 +4,7 @@ use Rattle.dds_script.specs.Opening.{IsOpening, IsScript, OpeningOf, ScriptOf}
 use Rattle.dds_script.specs.declared.line.Line.{Line}
 use Rattle.dds_transcript.specs.declared.report_line.ReportLine.{ReportLine}
 use Rattle.dds_transcript.specs.declared.report_line.ReportLine.TheVariants as report
-use Rattle.dds_client_view.specs.Client.{ClientSees}
+use Rattle.dds_client_view.specs.Client.{AnswersFit, ClientSees}
 use Rattle.dds_client_view.specs.Seen.{SeenLine, printed_by}
 use Rattle.dds_cluster.specs.Trace.{run_of}
 use Rattle.dds_walk.specs.Walk.{steps, transcript}
@@ -39,6 +39,7 @@ pub record IsShown (script : ScriptOf) : Type 0 where
   pub seen : List SeenLine
   pub is_seen : IsSeen (prints script.opening) script.lines seen
   pub sees : ClientSees seen
+  pub fits : AnswersFit seen
 
 -- of each script whose run stands
 abbrev pub ClientsSeeOneHistory : Type 0
