@@ -58,7 +58,8 @@ closed-open cs asked (replied.Call read caller call reply ∷ rs) h =
     closed-open (closes cs caller (slice_get cs caller)) asked rs (closes-open cs asked caller (slice_get cs caller) refl h)
 closed-open cs asked (replied.Order reply ∷ rs) h = closed-open cs asked rs h
 
-opens-open : (cs : List Caller) (asked : List Asked) (place caller : ℕ) (new : CallNo) (op : Op) (o : Option Caller) → slice_get cs caller ≡ o → OpenIsAsked cs asked
+opens-open : (cs : List Caller) (asked : List Asked) (place caller : ℕ) (new : CallNo) (op : Op) (o : Option Caller) → slice_get cs caller ≡ o
+    → OpenIsAsked cs asked
     → OpenIsAsked (opens cs caller new o) (asked ++ record { place = place; caller = caller; call = new; op = op } ∷ [])
 opens-open cs asked place caller new op None e h = λ k x call there is. asked-more asked _ k call (h k x call there is)
 opens-open cs asked place caller new op (Some c) e h = λ k x call there is.

@@ -11,7 +11,8 @@ use Rattle.dds_client_view.proofs.Sees.{HasOp, Keeps, all-mapped, answer-is, ent
 use Rattle.dds_client_view.proofs.Sees.{IsOver}
 use Rattle.dds_client_view.proofs.Shows.{IsAsked, IsOther, IsUnmade, Shows}
 use Rattle.dds_client_view.specs.Client as client
-use Rattle.dds_client_view.specs.Client.{AnswersFit, AreToOthers, ClientSees, HasAtMostOne, HasNone, HasOne, HasOneBy, IsOrdered, IsOrderedBy, StandsFirst, did_nothing, fate_by}
+use Rattle.dds_client_view.specs.Client.{AnswersFit, AreToOthers, ClientSees, HasAtMostOne, HasNone, HasOne}
+use Rattle.dds_client_view.specs.Client.{HasOneBy, IsOrdered, IsOrderedBy, StandsFirst, did_nothing, fate_by}
 use Rattle.dds_client_view.specs.Client.{is_entry_of, is_loss, may_be_done}
 use Rattle.dds_client_view.specs.Seen.{is_answer_to, SeenCall, SeenLine, answer_in, answers_in, calls_in, printed_by}
 use Rattle.dds_cluster.specs.Lists.{is_asked, is_call_of}
@@ -98,7 +99,8 @@ is-to-a-call told r calls asked h k =
 to-others : (told : List Told) → Pairwise OtherTold told → AreToOthers (map told_answer told)
 to-others [] h = tt
 to-others (r ∷ told) h = (
-  no-answer told r.caller r.call (all-map (OtherTold r) (λ x. x.caller ≡ r.caller → x.call ≡ r.call → ⊥) told (λ x other same number. other (sym same) (sym number)) h.0),
+  no-answer told r.caller r.call (all-map (OtherTold r) (λ x. x.caller ≡ r.caller → x.call ≡ r.call → ⊥) told
+      (λ x other same number. other (sym same) (sym number)) h.0),
   to-others told h.1,
 )
 

@@ -303,4 +303,16 @@ run-ended o journal h run =
     (kept-over z ((Book × talk.Books) × Unit {0}) (both_books (λ i n e b. (booked e b.0, talk.adds i n e b.1)) (λ i n e b u. tt))
     (Both (Stands z) (AreOnceOver z)) (Unit {0}) (λ i n e b u. tt) (λ i n b u. AreEnded i) low
     (λ i n e b u built f k after g. ended-then z few some i n b.0 built k.0 k.1 g.open_calls e f g))
-    (record { sized = first.sized; books = (first.books, tt); is = (first.is, record { open_calls = λ k x call e f. absurd (none-open o.libraries o.callers 0 k x call e f); apart = tt; places = tt; ends = tt }) }) run).is.1
+    (record {
+      sized = first.sized;
+      books = (first.books, tt);
+      is = (
+        first.is,
+        record {
+          open_calls = λ k x call e f. absurd (none-open o.libraries o.callers 0 k x call e f);
+          apart = tt;
+          places = tt;
+          ends = tt;
+        },
+      );
+    }) run).is.1

@@ -88,7 +88,8 @@ all-told w ended =
     all-map (Ends t.callers t.asked t.made) (IsAsked t.asked) t.told (λ r k. k.was_asked) ended.ends
 
 -- a caller whose call is open waits for its answer
-waiting : (w : Walk) (caller : CallerNo) (c : Caller) (o : Option CallNo) → slice_get w.trace.callers caller ≡ Some c → c.call ≡ o → is_some o ≡ true → IsEnded w
+waiting : (w : Walk) (caller : CallerNo) (c : Caller) (o : Option CallNo) → slice_get w.trace.callers caller ≡ Some c → c.call ≡ o → is_some o ≡ true
+    → IsEnded w
     → IsWaiting w caller
 waiting w caller c None e f is ended = absurd (cc)
 waiting w caller c (Some x) e f is ended =
@@ -113,7 +114,8 @@ shows-called : (o : OpeningOf) (before : List SeenLine) (w : Walk) (caller : Cal
 shows-called o before w caller op c true g e is there ended h =
     let v = called w caller op c true in
     let call = next_call w caller in (
-      shows-busy before w v (seen_between (line.Call caller op) w v) caller call op refl (printed-is w v (report.Busy caller call ∷ []) refl) refl there (all-told w ended)
+      shows-busy before w v (seen_between (line.Call caller op) w v) caller call op refl (printed-is w v (report.Busy caller call ∷ []) refl) refl there
+          (all-told w ended)
           (waiting w caller c c.call e refl is ended) h,
       length-set w.counts caller _,
     )

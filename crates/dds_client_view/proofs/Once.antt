@@ -86,7 +86,8 @@ closed-more cs caller (replied.Call read k call reply ∷ rs) h = (closes-closed
 closed-more cs caller (replied.Order reply ∷ rs) h = (tt, closed-more cs caller rs h.1)
 
 -- a call that is open isn't among those
-others-than : (cs : List Caller) (c : Caller) (caller : ℕ) (call : CallNo) (read : Option Txn) (reply : Reply) (rs : List Replied) → slice_get cs caller ≡ Some c
+others-than : (cs : List Caller) (c : Caller) (caller : ℕ) (call : CallNo) (read : Option Txn) (reply : Reply) (rs : List Replied)
+    → slice_get cs caller ≡ Some c
     → c.call ≡ Some call → AreClosed cs rs → AllByRecursion (λ r. AllByRecursion (OtherReply r) (replied.Call read caller call reply ∷ [])) rs
 others-than cs c caller call read reply [] e f h = tt
 others-than cs c caller call read reply (replied.Call a k other b ∷ rs) e f h = (
@@ -100,7 +101,8 @@ pub record Joined (cs : List Caller) (rs qs : List Replied) : Type 0 where
   pub closed : AreClosed (all_closed cs (rs ++ qs)) (rs ++ qs)
   pub apart : Pairwise OtherReply (rs ++ qs)
 
-joined : (cs : List Caller) (rs : List Replied) (c : Caller) (caller : ℕ) (call : CallNo) (txn : Txn) (o : Option Reply) → slice_get (all_closed cs rs) caller ≡ Some c
+joined : (cs : List Caller) (rs : List Replied) (c : Caller) (caller : ℕ) (call : CallNo) (txn : Txn) (o : Option Reply)
+    → slice_get (all_closed cs rs) caller ≡ Some c
     → c.call ≡ Some call → AreClosed (all_closed cs rs) rs → Pairwise OtherReply rs → Joined cs rs (replies_of caller call txn o)
 joined cs rs c caller call txn None e f h k =
     record {
