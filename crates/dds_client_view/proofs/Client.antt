@@ -25,7 +25,7 @@ use Rattle.dds_net.proofs.Pairwise.{Pairwise, pairs-filter}
 use Rattle.dds_walk.specs.declared.walk.Walk.{Walk}
 use Rattle.dds_world.specs.Stands.{AnsweredOnce, IsOfACall, RefusedNever, Stands, UnansweredOnceOrNever}
 use Rattle.dds_world.specs.Stands.{answer_to, placed_history, stands_in}
-use Rattle.dds_client_view.proofs.CallLines.{no-answer}
+use Rattle.dds_client_view.proofs.Numbers.{no-answer}
 use Rattle.dds_client_view.proofs.Once.{OtherTold}
 use Rattle.dds_client_view.proofs.Ordered.{IsBehind, is_of, is-behind, none-first, none-last, ordered-where, ordered-two}
 

@@ -1,6 +1,5 @@
 -- A call that was answered is over: its update has no point behind the answer, and where it was answered Lost it is an update.
-use Rattle.std.proofs.Common.{◌≡◌, ℕ, ◌+◌, ◌<◌, ◌≤◌, ◌++◌, true, false, Option, Some, None, List, [], ◌∷◌, refl, sym, ap, ◌∙◌, subst, arith}
-use Rattle.std.proofs.lemmas.Bool.{both_ways}
+use Rattle.std.proofs.Common.{◌≡◌, ℕ, ◌+◌, ◌<◌, ◌≤◌, ◌++◌, true, Option, Some, None, List, [], refl, sym, ap, ◌∙◌, subst, arith}
 use Rattle.std.specs.List.{AllByRecursion}
 use Rattle.std.specs.Prelude.{slice_get}
 use Rattle.dds_answered.proofs.Flags.{own-calls}
@@ -9,17 +8,15 @@ use Rattle.dds_base.specs.Number.{Txn}
 use Rattle.dds_base.specs.Op.{is_get}
 use Rattle.dds_base.specs.declared.number.CallNo.{CallNo}
 use Rattle.dds_base.specs.declared.op.Reply.{Reply}
-use Rattle.dds_base.specs.declared.op.Reply.TheVariants as reply
 use Rattle.dds_books.specs.Books.{Book, booked}
 use Rattle.dds_books.specs.Calls.{IsOwned, LibraryIs}
 use Rattle.dds_books.specs.Placed.{CallOk, LibraryOk, Made, NodeOk, PhaseOk}
 use Rattle.dds_call_rows.specs.Library.{begin}
 use Rattle.dds_calls.proofs.Answered.{differ, made-all}
 use Rattle.dds_calls.proofs.Reasons.{Reason, begins-again, lost, met, reason, result, was_full}
-use Rattle.dds_world.specs.Stands.{is_result}
 use Rattle.dds_calls.proofs.Treats.{Answers, library-treats}
 use Rattle.dds_client_view.proofs.Asked.{OpenIsAsked, asked-last, asked-more, none-open, open-then}
-use Rattle.dds_client_view.proofs.Order.{IsAt, made-at}
+use Rattle.dds_client_view.proofs.Order.{IsAt}
 use Rattle.dds_cluster.specs.Lists.{is_asked}
 use Rattle.dds_client_view.proofs.Once.{OtherReply, OtherTold, no-calls-apart, one-answer-apart, told-apart, turn-apart}
 use Rattle.dds_net.proofs.Pairwise.{Pairwise, pairs-append}
@@ -27,7 +24,6 @@ use Rattle.dds_client_view.proofs.Shut.{ReplySays, replies-shut, told-says}
 use Rattle.dds_client_view.specs.Client.{is_loss}
 use Rattle.dds_cluster.specs.Trace.{all_kept, is_run, run_of, start, told_at}
 use Rattle.dds_cluster.specs.declared.step.Step.{Step}
-use Rattle.dds_cluster.specs.declared.trace.Asked.{Asked}
 use Rattle.dds_cluster.specs.declared.trace.Caller.{Caller}
 use Rattle.dds_cluster.specs.declared.trace.Made as trace
 use Rattle.dds_cluster.specs.declared.trace.Told.{Told}
@@ -35,7 +31,6 @@ use Rattle.dds_core.proofs.CallDoes.{call-does, new-begins}
 use Rattle.dds_core.proofs.LetterTells.{letter-tells}
 use Rattle.dds_core.proofs.Lists.{all-append, all-is, all-map}
 use Rattle.dds_core.proofs.OrderTells.{order-tells}
-use Rattle.dds_core.proofs.Tells.{Given, Gives}
 use Rattle.dds_core.specs.Brick.{brick_input, live_brick_turn}
 use Rattle.dds_core.specs.LibraryTurn.{call_row, desk_of, live_library_turn, new_request, replies_of as replies_in}
 use Rattle.dds_letters.specs.declared.letter.Letter.{Letter}
@@ -55,55 +50,8 @@ use Rattle.dds_outcomes.proofs.Points.{kept-all}
 use Rattle.dds_script.specs.Opening.{IsOpening, OpeningOf}
 use Rattle.dds_states.specs.declared.library_state.LibraryState.{LibraryState}
 use Rattle.dds_states.specs.declared.library_state.OpenCall.{OpenCall}
-use Rattle.dds_states.specs.declared.turn.Replied.{Replied}
-use Rattle.dds_states.specs.declared.turn.Replied.TheVariants as replied
 use Rattle.dds_talk.specs.Books as talk
-
--- an update's point that is of the call stands before a place
-abbrev pub IsEarlier : ℕ → ℕ → CallNo → trace.Made → Type 0
-IsEarlier place caller call m = is_get m.entry.op ≡ false → m.entry.caller ≡ caller → m.entry.call ≡ call → m.place < place
-
--- a call is no get, if it is this one
-abbrev pub IsUpdate : ℕ → CallNo → Asked → Type 0
-IsUpdate caller call x = x.caller ≡ caller → x.call ≡ call → is_get x.op ≡ false
-
-abbrev pub LosesUpdate : List Asked → ℕ → CallNo → Reply → Type 0
-LosesUpdate asked caller call r = is_loss r ≡ true → AllByRecursion (IsUpdate caller call) asked
-
--- What is so of an answer.
---
--- | part     | why it is needed       | which events keep it                                                               |
--- | `shut`   | no point comes later   | an answer closes the call, and its caller makes no call with this number again     |
--- | `before` | the claim              | what is applied is of an open call; the points before an answer have earlier places |
--- | `lost`   | a get isn't lost       | a call that commits is an update; a call is asked once                             |
--- | `was_asked` | it is to a call     | an open call is its caller's open one, which was asked                             |
-pub record Ends (cs : List Caller) (asked : List Asked) (made : List trace.Made) (r : Told) : Type 0 where
-  pub shut : IsShut cs r.caller r.call
-  pub before : AllByRecursion (IsEarlier r.place r.caller r.call) made
-  pub lost : LosesUpdate asked r.caller r.call r.reply
-  pub was_asked : is_asked asked r.caller r.call ≡ true
-
-pub record AreEnded (h : History) : Type 0 where
-  pub open_calls : OpenIsAsked h.callers h.asked
-  pub apart : Pairwise OtherTold h.told
-  pub places : AllByRecursion (λ (m : trace.Made). m.place < h.steps) h.made
-  pub ends : AllByRecursion (Ends h.callers h.asked h.made) h.told
-
-points-at : (place : ℕ) (e : Event) → AllByRecursion (IsAt place) (points_of place e)
-points-at place (brick_takes at from l s) = made-at place l (live_brick_turn s from l).out.points
-points-at place other = tt
-
-no-calls : (M : Given) (P : ℕ → CallNo → Reply → Type 0) (rs : List Replied) → AllByRecursion (Gives M) rs → AllByRecursion (ReplySays P) rs
-no-calls M P [] h = tt
-no-calls M P (replied.Order r ∷ rs) h = (tt, no-calls M P rs h.1)
-no-calls M P (replied.Call read caller call r ∷ rs) h = absurd h.0
-
-no-loss : (r : Reply) → is_loss r ≡ false → is_loss r ≡ true → ⊥
-no-loss r e f = both_ways (is_loss r) e f
-
-result-no-loss : (r : Reply) → is_result r ≡ true → is_loss r ≡ false
-result-no-loss (reply.Lost name) e = cc
-result-no-loss other e = refl
+use Rattle.dds_client_view.proofs.Ends.{AreEnded, Ends, IsEarlier, IsUpdate, LosesUpdate, points-at, no-calls, no-loss, result-no-loss}
 
 module _ (z : Sizes) (few : z.bricks ≤ 64) (some : z.libraries ≤ 16) (h : History) (n : Net) (b : Book × talk.Books) (built : IsBuilt z n)
     (k : Stands z h n b) (once : AreOnce h n b.0) (opened : OpenIsAsked h.callers h.asked) where

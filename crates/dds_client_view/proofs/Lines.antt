@@ -11,7 +11,8 @@ use Rattle.dds_base.specs.declared.number.CallerNo.{CallerNo}
 use Rattle.dds_base.specs.declared.op.Op.{Op}
 use Rattle.dds_client_view.proofs.Prints.{IsAside, Prints, prints-line, prints-played}
 use Rattle.dds_client_view.proofs.CallLines.{IsWaiting, shows-busy, shows-made}
-use Rattle.dds_client_view.proofs.Ended.{AreEnded, Ends, run-ended}
+use Rattle.dds_client_view.proofs.Ended.{run-ended}
+use Rattle.dds_client_view.proofs.Ends.{AreEnded, Ends}
 use Rattle.dds_core.proofs.Lists.{all-map}
 use Rattle.dds_net.specs.Event.{history_of}
 use Rattle.dds_client_view.proofs.Shows.{IsAsked, Shows, shows-aside}
