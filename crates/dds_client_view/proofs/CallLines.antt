@@ -14,7 +14,7 @@ use Rattle.dds_base.specs.declared.op.Op.{Op}
 use Rattle.dds_client_view.proofs.Calls.{AreMade, IsBefore, IsCallOf, made-later, made-push, told_answer, any-made, made_calls}
 use Rattle.dds_client_view.proofs.Prints.{Prints}
 use Rattle.dds_client_view.specs.Client.{IsBusyFor, IsUnansweredBefore, is_open_at}
-use Rattle.dds_client_view.specs.Law.{body}
+use Rattle.dds_client_view.specs.Seen.{body}
 use Rattle.dds_client_view.specs.Seen.{answer_in, SeenCall, SeenLine, answer_on, answers_in, call_of}
 use Rattle.dds_client_view.specs.Seen.{calls_in, first_answer, is_busy, is_line_of, lines_of, printed_by}
 use Rattle.dds_cluster.specs.Lists.{is_asked}

@@ -12,7 +12,8 @@ use Rattle.dds_client_view.proofs.Over.{are-over}
 use Rattle.dds_client_view.proofs.Sees.{have-ops}
 use Rattle.dds_client_view.proofs.Order.{IsInOrder, run-in-order}
 use Rattle.dds_client_view.proofs.Shows.{Shows}
-use Rattle.dds_client_view.specs.Law.{IsShown, body, is_last, prints}
+use Rattle.dds_client_view.specs.Law.{IsShown, prints}
+use Rattle.dds_client_view.specs.Seen.{body, is_last}
 use Rattle.dds_client_view.proofs.Printed.{seen_from}
 use Rattle.dds_client_view.specs.Seen.{SeenLine, printed_by}
 use Rattle.dds_cluster.specs.Trace.{run_of}

@@ -9,7 +9,7 @@ use Rattle.std.proofs.lemmas.List.Elements.{filter-append}
 use Rattle.dds_client_view.proofs.Calls.{AreMade, IsBefore, made-later, told_answer, made_calls}
 use Rattle.dds_client_view.proofs.Prints.{IsAside, Prints}
 use Rattle.dds_client_view.specs.Client.{IsBusyFor, IsUnansweredBefore}
-use Rattle.dds_client_view.specs.Law.{body, is_last}
+use Rattle.dds_client_view.specs.Seen.{body, is_last}
 use Rattle.dds_client_view.specs.Seen.{SeenCall, SeenLine, answer_on, answers_in, call_of, calls_behind, calls_in, is_line_of, lines_of, printed_by}
 use Rattle.dds_cluster.specs.Lists.{is_asked}
 use Rattle.dds_cluster.specs.declared.trace.Asked.{Asked}
