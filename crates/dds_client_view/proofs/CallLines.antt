@@ -1,100 +1,35 @@
 -- A call line more.
-use Rattle.std.proofs.Common.{◌≡◌, ℕ, ◌+◌, ◌<◌, Bool, true, false, List, [], ◌∷◌, ◌++◌, zero, suc, refl}
+use Rattle.std.proofs.Common.{◌≡◌, ℕ, ◌<◌, Bool, true, false, List, [], ◌∷◌, ◌++◌, refl}
 use Rattle.std.proofs.Common.{sym, ap, subst, ◌∙◌, arith, length}
-use Rattle.std.specs.Prelude.{not, ◌&&◌, ◌||◌, ◌==◌, slice_index_or, slice_set}
+use Rattle.std.specs.Prelude.{is_none, nat_lt, None, map, not, ◌&&◌, ◌||◌, ◌==◌, slice_index_or}
 use Rattle.std.specs.List.{AllByRecursion, list_any}
 use Rattle.std.proofs.lemmas.Bool.Decides.{nat_tests}
 use Rattle.std.proofs.lemmas.Grind.{flat_map-append}
-use Rattle.std.proofs.lemmas.List.{append-nil, length-set}
+use Rattle.std.proofs.lemmas.List.{append-nil}
 use Rattle.std.proofs.lemmas.List.Elements.{filter-append}
+use Rattle.std.proofs.lemmas.List.Folds.{list_any-append}
 use Rattle.dds_base.specs.declared.number.CallNo.{CallNo}
 use Rattle.dds_base.specs.declared.number.CallerNo.{CallerNo}
 use Rattle.dds_base.specs.declared.op.Op.{Op}
-use Rattle.dds_client_view.proofs.Calls.{AreMade, IsBefore, IsCallOf, made-later, made-push}
+use Rattle.dds_client_view.proofs.Calls.{AreMade, IsBefore, IsCallOf, made-later, made-push, told_answer, any-made, made_calls}
 use Rattle.dds_client_view.proofs.Prints.{Prints}
-use Rattle.dds_client_view.specs.Law.{body}
-use Rattle.dds_client_view.specs.Seen.{SeenCall, SeenLine, answer_on, answers_in, call_of, calls_in, is_busy, is_line_of, lines_of, printed_by}
-use Rattle.dds_cluster.specs.Lists.{is_asked, is_call_of}
+use Rattle.dds_client_view.specs.Client.{IsBusyFor, IsUnansweredBefore, is_open_at}
+use Rattle.dds_client_view.specs.Seen.{body}
+use Rattle.dds_client_view.specs.Seen.{answer_in, SeenCall, SeenLine, answer_on, answers_in, call_of}
+use Rattle.dds_client_view.specs.Seen.{calls_in, first_answer, is_busy, is_line_of, lines_of, printed_by}
+use Rattle.dds_cluster.specs.Lists.{is_asked}
 use Rattle.dds_cluster.specs.declared.trace.Asked.{Asked}
 use Rattle.dds_cluster.specs.declared.trace.Told.{Told}
-use Rattle.dds_core.proofs.Lists.{all-append}
+use Rattle.dds_core.proofs.Lists.{all-append, all-map}
 use Rattle.dds_net.proofs.Pairwise.{Pairwise, pairs-append}
 use Rattle.dds_script.specs.declared.line.Line.TheVariants as line
 use Rattle.dds_transcript.specs.declared.report_line.ReportLine.{ReportLine}
 use Rattle.dds_transcript.specs.declared.report_line.ReportLine.TheVariants as report
 use Rattle.dds_walk.specs.Walk.{counted, says}
 use Rattle.dds_walk.specs.declared.walk.Walk.{Walk}
-use Rattle.dds_client_view.proofs.Shows.{IsNumbered, IsOld, IsOther, IsUnmade, Shows, made_calls}
-use Rattle.dds_client_view.proofs.Shows.{printed-push, calls-push, lines-same, lines-one, numbered-more, old-more, answers-more, places-more, plain-more}
-
--- a call that has the caller's next number isn't among those so far
-other-call : (a b m n : ℕ) (before : List SeenLine) → m < lines_of a before → n ≡ lines_of b before → (a == b && m == n) ≡ false
-other-call a b m n before h e = elim (a == b) as (λ c. (a == b) ≡ c → (c && m == n) ≡ false) [
-  | true ↦ λ same.
-      let at : a ≡ b = grind (arith, nat_tests, same) in
-      let less : m < n = omega (arith, h, e, ap (λ i. lines_of i before) at) in
-      grind (arith, nat_tests, less)
-  | false ↦ λ same. refl
-] refl
-
-not-asked : (before : List SeenLine) (caller : ℕ) (call : CallNo) (asked : List Asked) → call.0 ≡ lines_of caller before → AllByRecursion (IsOld before) asked
-    → is_asked asked caller call ≡ false
-not-asked before caller call [] e h = refl
-not-asked before caller call (a ∷ asked) e h =
-    ap (λ b. b || is_asked asked caller call) (other-call a.caller caller a.call.0 call.0 before h.0 e) ∙ not-asked before caller call asked e h.1
-
-asked-push : (asked : List Asked) (a : Asked) (caller : ℕ) (call : CallNo) → is_asked asked caller call ≡ false → is_call_of caller call a ≡ false
-    → is_asked (asked ++ a ∷ []) caller call ≡ false
-asked-push [] a caller call h k = ap (λ b. b || false) k
-asked-push (b ∷ asked) a caller call h k =
-    elim (is_call_of caller call b) as (λ x. (x || is_asked asked caller call) ≡ false → (x || is_asked (asked ++ a ∷ []) caller call) ≡ false) [
-      | true ↦ λ e. absurd (cc)
-      | false ↦ λ e. asked-push asked a caller call e k
-    ] h
-
--- the new call has the number that none of the former ones has
-new-call : (caller b m n : ℕ) (before : List SeenLine) → m ≡ lines_of caller before → n < lines_of b before → (caller == b && m == n) ≡ false
-new-call caller b m n before e h = elim (caller == b) as (λ c. (caller == b) ≡ c → (c && m == n) ≡ false) [
-  | true ↦ λ same.
-      let at : caller ≡ b = grind (arith, nat_tests, same) in
-      let less : n < m = omega (arith, h, e, ap (λ i. lines_of i before) at) in
-      grind (arith, nat_tests, less)
-  | false ↦ λ same. refl
-] refl
-
--- the counts behind a call line
-set-same : (ns : List ℕ) (i v : ℕ) → i < length ns → slice_index_or (slice_set ns i v) i 0 ≡ v
-set-same [] i v h = omega (arith, h)
-set-same (n ∷ ns) zero v h = refl
-set-same (n ∷ ns) (suc i) v h = set-same ns i v (omega (arith, h))
-
-set-other : (ns : List ℕ) (i j v : ℕ) → (i ≡ j → ⊥) → slice_index_or (slice_set ns i v) j 0 ≡ slice_index_or ns j 0
-set-other [] i j v h = refl
-set-other (n ∷ ns) zero zero v h = absurd (h refl)
-set-other (n ∷ ns) zero (suc j) v h = refl
-set-other (n ∷ ns) (suc i) zero v h = refl
-set-other (n ∷ ns) (suc i) (suc j) v h = set-other ns i j v (λ e. h (ap suc e))
-
-not-same : (i j : ℕ) → (i == j) ≡ false → i ≡ j → ⊥
-not-same i j h e = let same : (i == j) ≡ true = grind (arith, nat_tests, e) in let no : true ≡ false = sym same ∙ h in cc
-
-counts-more : (before : List SeenLine) (w : Walk) (caller : ℕ) (s : SeenLine) (op : Op) → s.line ≡ line.Call caller op → Shows before w
-    → caller < length w.counts
-    → (c : ℕ) → c < length (counted w caller).counts → slice_index_or (counted w caller).counts c 0 ≡ lines_of c (before ++ s ∷ [])
-counts-more before w caller s op is h there c small =
-    let size = length-set w.counts caller (slice_index_or w.counts caller 0 + 1) in
-    let old = h.counts c (omega (arith, small, size)) in
-    elim (caller == c) as (λ b. (caller == c) ≡ b → slice_index_or (counted w caller).counts c 0 ≡ lines_of c (before ++ s ∷ [])) [
-      | true ↦ λ same.
-          let at : caller ≡ c = grind (arith, nat_tests, same) in
-          let one = lines-one c before s (ap (is_line_of c) is ∙ same) in
-          let set = set-same w.counts caller (slice_index_or w.counts caller 0 + 1) there in
-          ap (λ n. slice_index_or (counted w caller).counts n 0) (sym at) ∙ set ∙ ap (λ n. n + 1) (h.counts caller there)
-          ∙ ap (λ n. lines_of n before + 1) at ∙ sym one
-      | false ↦ λ other.
-          set-other w.counts caller c (slice_index_or w.counts caller 0 + 1) (not-same caller c other) ∙ old
-          ∙ sym (lines-same c before s (ap (is_line_of c) is ∙ other))
-    ] refl
+use Rattle.dds_client_view.proofs.Shows.{IsAsked, IsNumbered, IsOld, IsOther, IsUnmade, Shows}
+use Rattle.dds_client_view.proofs.Shows.{printed-push, calls-push, lines-one, numbered-more, old-more, answers-more, places-more, plain-more}
+use Rattle.dds_client_view.proofs.Numbers.{old-number, not-asked, not-answered, asked-push, new-call, counts-more, no-answer}
 
 -- a call line of a caller that is busy
 abbrev seen_call : List SeenLine → List ReportLine → CallerNo → Op → Bool → SeenCall
@@ -115,10 +50,59 @@ below-push before s caller op busy e h =
     all-append (IsNumbered (before ++ s ∷ [])) (calls_in before) (seen_call before s.printed caller op busy ∷ []) (numbered-more before s (calls_in before) h)
     (omega (arith, one), tt)
 
+fresh-push : (before : List SeenLine) (w : Walk) (c : SeenCall) → AllByRecursion (IsAsked w.trace.asked) w.trace.told → Shows before w
+    → c.call.0 ≡ lines_of c.caller before → c.before ≡ printed_by before → AllByRecursion IsUnansweredBefore (calls_in before ++ c ∷ [])
+fresh-push before w c told h number printed =
+    all-append IsUnansweredBefore (calls_in before) (c ∷ []) h.fresh (
+      ap (λ l. first_answer (answers_in l) c.caller c.call) (printed ∙ h.printed)
+          ∙ ap (λ l. first_answer l c.caller c.call) h.answers
+          ∙ not-answered before w.trace.asked w.trace.told c.caller c.call number h.old told,
+      tt,
+    )
+
+-- a call of the caller was asked, and isn't answered
+pub record IsWaiting (w : Walk) (caller : ℕ) : Type 0 where
+  pub call : CallNo
+  pub asked : is_asked w.trace.asked caller call ≡ true
+  pub none : AllByRecursion (λ r. r.caller ≡ caller → r.call ≡ call → ⊥) w.trace.told
+
+-- a caller that was busy waited for an earlier call
+waits-more : (cs : List SeenCall) (c : SeenCall) (ds : List SeenCall) → AllByRecursion (IsBusyFor cs) ds → AllByRecursion (IsBusyFor (cs ++ c ∷ [])) ds
+waits-more cs c ds h =
+    all-map (IsBusyFor cs) (IsBusyFor (cs ++ c ∷ [])) ds
+    (λ d k busy. list_any-append (is_open_at d) cs (c ∷ []) ∙ ap (λ b. b || list_any (is_open_at d) (c ∷ [])) (k busy)) h
+
+waits-push : (cs : List SeenCall) (c : SeenCall) → AllByRecursion (IsBusyFor cs) cs → (c.busy ≡ true → list_any (is_open_at c) cs ≡ true)
+    → AllByRecursion (IsBusyFor (cs ++ c ∷ [])) (cs ++ c ∷ [])
+waits-push cs c h k =
+    all-append (IsBusyFor (cs ++ c ∷ [])) cs (c ∷ []) (waits-more cs c cs h)
+    ((λ busy. list_any-append (is_open_at c) cs (c ∷ []) ∙ ap (λ b. b || list_any (is_open_at c) (c ∷ [])) (k busy)), tt)
+
+open-call : (before : List SeenLine) (w : Walk) (c : SeenCall) (k : ℕ) (call : CallNo) → c.caller ≡ k → c.call.0 ≡ lines_of k before
+    → c.before ≡ printed_by before → is_asked w.trace.asked k call ≡ true → AllByRecursion (λ r. r.caller ≡ k → r.call ≡ call → ⊥) w.trace.told
+    → Shows before w → list_any (is_open_at c) (calls_in before) ≡ true
+open-call before w c k call e number printed asked none h =
+    any-made w.trace.told (is_open_at c) k call (calls_in before) w.trace.asked h.made asked
+    (λ d free at its.
+    let low : call.0 < lines_of k before = old-number before k call w.trace.asked h.old asked in
+    let less : nat_lt d.call.0 c.call.0 ≡ true = grind (arith, nat_tests, its, number, low) in
+    let same : (d.caller == c.caller) ≡ true = grind (arith, nat_tests, at, e) in
+    let d_call : d.call ≡ call = λ i. record { 0 = its i } in
+    let nothing : answer_in c.before d ≡ None =
+    ap (λ l. first_answer (answers_in l) d.caller d.call) (printed ∙ h.printed)
+    ∙ ap (λ l. first_answer l d.caller d.call) h.answers
+    ∙ ap (λ n. first_answer (map told_answer w.trace.told) n d.call) at
+    ∙ ap (λ (n : CallNo). first_answer (map told_answer w.trace.told) k n) d_call
+    ∙ no-answer w.trace.told k call none in
+    ap (λ b. not b && (d.caller == c.caller && (nat_lt d.call.0 c.call.0 && is_none (answer_in c.before d)))) free
+    ∙ ap (λ b. b && (nat_lt d.call.0 c.call.0 && is_none (answer_in c.before d))) same
+    ∙ ap (λ b. b && is_none (answer_in c.before d)) less
+    ∙ ap is_none nothing)
+
 pub shows-busy : (before : List SeenLine) (w v : Walk) (s : SeenLine) (caller : CallerNo) (call : CallNo) (op : Op) → s.line ≡ line.Call caller op
-    → s.printed ≡ report.Busy caller call ∷ [] → v ≡ says (counted w caller) (report.Busy caller call) → caller < length w.counts → Shows before w
-    → Shows (before ++ s ∷ []) v
-shows-busy before w v s caller call op is e v_is there h =
+    → s.printed ≡ report.Busy caller call ∷ [] → v ≡ says (counted w caller) (report.Busy caller call) → caller < length w.counts
+    → AllByRecursion (IsAsked w.trace.asked) w.trace.told → IsWaiting w caller → Shows before w → Shows (before ++ s ∷ []) v
+shows-busy before w v s caller call op is e v_is there told open_one h =
     let c = seen_call before s.printed caller op true in
     let busy : list_any is_busy s.printed ≡ true = ap (list_any is_busy) e in
     let calls : calls_in (before ++ s ∷ []) ≡ calls_in before ++ c ∷ [] =
@@ -140,6 +124,9 @@ shows-busy before w v s caller call op is e v_is there h =
       busy = subst (λ (l : List SeenCall). AllByRecursion (IsUnmade w.trace.asked) l) (sym calls)
           (all-append (IsUnmade w.trace.asked) (calls_in before) (c ∷ []) h.busy
           ((λ b. not-asked before caller c.call w.trace.asked refl h.old), tt));
+      fresh = subst (AllByRecursion IsUnansweredBefore) (sym calls) (fresh-push before w c told h refl refl);
+      waits = subst (λ (l : List SeenCall). AllByRecursion (IsBusyFor l) l) (sym calls) (waits-push (calls_in before) c h.waits
+          (λ b. open-call before w c caller open_one.call refl refl refl open_one.asked open_one.none h));
     } in
     subst (Shows (before ++ s ∷ [])) (sym v_is) shown
 
@@ -160,8 +147,9 @@ apart-push before (b ∷ asked) a e h = (((λ same number. omega (arith, h.0, e,
 pub shows-made : (before : List SeenLine) (w v : Walk) (s : SeenLine) (caller : CallerNo) (call : CallNo) (op : Op) (a : Asked)
     (g : Prints (a ∷ []) (counted w caller) v)
     → s.line ≡ line.Call caller op → s.printed ≡ g.more → a ≡ record { place = w.trace.steps; caller = caller; call = call; op = op }
-    → call.0 ≡ lines_of caller before → caller < length w.counts → Shows before w → Shows (before ++ s ∷ []) v
-shows-made before w v s caller call op a g is e a_is number there h =
+    → call.0 ≡ lines_of caller before → caller < length w.counts → AllByRecursion (IsAsked w.trace.asked) w.trace.told → Shows before w
+    → Shows (before ++ s ∷ []) v
+shows-made before w v s caller call op a g is e a_is number there told h =
     let c = seen_call before s.printed caller op false in
     let free : list_any is_busy s.printed ≡ false = ap (list_any is_busy) e ∙ g.free in
     let calls : calls_in (before ++ s ∷ []) ≡ calls_in before ++ c ∷ [] =
@@ -208,4 +196,6 @@ shows-made before w v s caller call op a g is e a_is number there h =
           (all-append (IsUnmade (w.trace.asked ++ a ∷ [])) (calls_in before) (c ∷ [])
           (unmade-push before w.trace.asked a (calls_in before) a_number h.below h.busy)
           ((λ b. absurd (cc)), tt)));
+      fresh = subst (AllByRecursion IsUnansweredBefore) (sym calls) (fresh-push before w c told h refl refl);
+      waits = subst (λ (l : List SeenCall). AllByRecursion (IsBusyFor l) l) (sym calls) (waits-push (calls_in before) c h.waits (λ b. absurd (cc)));
     }

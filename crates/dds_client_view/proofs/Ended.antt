@@ -1,6 +1,5 @@
 -- A call that was answered is over: its update has no point behind the answer, and where it was answered Lost it is an update.
-use Rattle.std.proofs.Common.{◌≡◌, ℕ, ◌+◌, ◌<◌, ◌≤◌, ◌++◌, true, false, Option, Some, None, List, [], ◌∷◌, refl, sym, ap, ◌∙◌, subst, arith}
-use Rattle.std.proofs.lemmas.Bool.{both_ways}
+use Rattle.std.proofs.Common.{◌≡◌, ℕ, ◌+◌, ◌<◌, ◌≤◌, ◌++◌, true, Option, Some, None, List, [], refl, sym, ap, ◌∙◌, subst, arith}
 use Rattle.std.specs.List.{AllByRecursion}
 use Rattle.std.specs.Prelude.{slice_get}
 use Rattle.dds_answered.proofs.Flags.{own-calls}
@@ -9,21 +8,22 @@ use Rattle.dds_base.specs.Number.{Txn}
 use Rattle.dds_base.specs.Op.{is_get}
 use Rattle.dds_base.specs.declared.number.CallNo.{CallNo}
 use Rattle.dds_base.specs.declared.op.Reply.{Reply}
-use Rattle.dds_base.specs.declared.op.Reply.TheVariants as reply
 use Rattle.dds_books.specs.Books.{Book, booked}
 use Rattle.dds_books.specs.Calls.{IsOwned, LibraryIs}
 use Rattle.dds_books.specs.Placed.{CallOk, LibraryOk, Made, NodeOk, PhaseOk}
 use Rattle.dds_call_rows.specs.Library.{begin}
 use Rattle.dds_calls.proofs.Answered.{differ, made-all}
 use Rattle.dds_calls.proofs.Reasons.{Reason, begins-again, lost, met, reason, result, was_full}
-use Rattle.dds_world.specs.Stands.{is_result}
 use Rattle.dds_calls.proofs.Treats.{Answers, library-treats}
-use Rattle.dds_client_view.proofs.Order.{IsAt, made-at}
+use Rattle.dds_client_view.proofs.Asked.{OpenIsAsked, asked-last, asked-more, none-open, open-then}
+use Rattle.dds_client_view.proofs.Order.{IsAt}
+use Rattle.dds_cluster.specs.Lists.{is_asked}
+use Rattle.dds_client_view.proofs.Once.{OtherReply, OtherTold, no-calls-apart, one-answer-apart, told-apart, turn-apart}
+use Rattle.dds_net.proofs.Pairwise.{Pairwise, pairs-append}
 use Rattle.dds_client_view.proofs.Shut.{ReplySays, replies-shut, told-says}
 use Rattle.dds_client_view.specs.Client.{is_loss}
 use Rattle.dds_cluster.specs.Trace.{all_kept, is_run, run_of, start, told_at}
 use Rattle.dds_cluster.specs.declared.step.Step.{Step}
-use Rattle.dds_cluster.specs.declared.trace.Asked.{Asked}
 use Rattle.dds_cluster.specs.declared.trace.Caller.{Caller}
 use Rattle.dds_cluster.specs.declared.trace.Made as trace
 use Rattle.dds_cluster.specs.declared.trace.Told.{Told}
@@ -31,7 +31,6 @@ use Rattle.dds_core.proofs.CallDoes.{call-does, new-begins}
 use Rattle.dds_core.proofs.LetterTells.{letter-tells}
 use Rattle.dds_core.proofs.Lists.{all-append, all-is, all-map}
 use Rattle.dds_core.proofs.OrderTells.{order-tells}
-use Rattle.dds_core.proofs.Tells.{Given, Gives}
 use Rattle.dds_core.specs.Brick.{brick_input, live_brick_turn}
 use Rattle.dds_core.specs.LibraryTurn.{call_row, desk_of, live_library_turn, new_request, replies_of as replies_in}
 use Rattle.dds_letters.specs.declared.letter.Letter.{Letter}
@@ -46,59 +45,16 @@ use Rattle.dds_once.proofs.Opens.{IsOpenPoint, open-shut, points-open}
 use Rattle.dds_once.proofs.Requests.{OfCall}
 use Rattle.dds_once.proofs.Shut.{IsShut, shut-later}
 use Rattle.dds_once.proofs.Start.{start-once}
-use Rattle.dds_once.proofs.Used.{IsNew, IsUsed, asked-new, free-unused, opens-used}
+use Rattle.dds_once.proofs.Used.{IsNew, IsUsed, asked-new, free-unused, may-free, opens-used}
 use Rattle.dds_outcomes.proofs.Points.{kept-all}
 use Rattle.dds_script.specs.Opening.{IsOpening, OpeningOf}
 use Rattle.dds_states.specs.declared.library_state.LibraryState.{LibraryState}
 use Rattle.dds_states.specs.declared.library_state.OpenCall.{OpenCall}
-use Rattle.dds_states.specs.declared.turn.Replied.{Replied}
-use Rattle.dds_states.specs.declared.turn.Replied.TheVariants as replied
 use Rattle.dds_talk.specs.Books as talk
-
--- an update's point that is of the call stands before a place
-abbrev pub IsEarlier : ℕ → ℕ → CallNo → trace.Made → Type 0
-IsEarlier place caller call m = is_get m.entry.op ≡ false → m.entry.caller ≡ caller → m.entry.call ≡ call → m.place < place
-
--- a call is no get, if it is this one
-abbrev pub IsUpdate : ℕ → CallNo → Asked → Type 0
-IsUpdate caller call x = x.caller ≡ caller → x.call ≡ call → is_get x.op ≡ false
-
-abbrev pub LosesUpdate : List Asked → ℕ → CallNo → Reply → Type 0
-LosesUpdate asked caller call r = is_loss r ≡ true → AllByRecursion (IsUpdate caller call) asked
-
--- What is so of an answer.
---
--- | part     | why it is needed       | which events keep it                                                               |
--- | `shut`   | no point comes later   | an answer closes the call, and its caller makes no call with this number again     |
--- | `before` | the claim              | what is applied is of an open call; the points before an answer have earlier places |
--- | `lost`   | a get isn't lost       | a call that commits is an update; a call is asked once                             |
-pub record Ends (cs : List Caller) (asked : List Asked) (made : List trace.Made) (r : Told) : Type 0 where
-  pub shut : IsShut cs r.caller r.call
-  pub before : AllByRecursion (IsEarlier r.place r.caller r.call) made
-  pub lost : LosesUpdate asked r.caller r.call r.reply
-
-pub record AreEnded (h : History) : Type 0 where
-  pub places : AllByRecursion (λ (m : trace.Made). m.place < h.steps) h.made
-  pub ends : AllByRecursion (Ends h.callers h.asked h.made) h.told
-
-points-at : (place : ℕ) (e : Event) → AllByRecursion (IsAt place) (points_of place e)
-points-at place (brick_takes at from l s) = made-at place l (live_brick_turn s from l).out.points
-points-at place other = tt
-
-no-calls : (M : Given) (P : ℕ → CallNo → Reply → Type 0) (rs : List Replied) → AllByRecursion (Gives M) rs → AllByRecursion (ReplySays P) rs
-no-calls M P [] h = tt
-no-calls M P (replied.Order r ∷ rs) h = (tt, no-calls M P rs h.1)
-no-calls M P (replied.Call read caller call r ∷ rs) h = absurd h.0
-
-no-loss : (r : Reply) → is_loss r ≡ false → is_loss r ≡ true → ⊥
-no-loss r e f = both_ways (is_loss r) e f
-
-result-no-loss : (r : Reply) → is_result r ≡ true → is_loss r ≡ false
-result-no-loss (reply.Lost name) e = cc
-result-no-loss other e = refl
+use Rattle.dds_client_view.proofs.Ends.{AreEnded, Ends, IsEarlier, IsUpdate, LosesUpdate, points-at, no-calls, no-loss, result-no-loss}
 
 module _ (z : Sizes) (few : z.bricks ≤ 64) (some : z.libraries ≤ 16) (h : History) (n : Net) (b : Book × talk.Books) (built : IsBuilt z n)
-    (k : Stands z h n b) (once : AreOnce h n b.0) where
+    (k : Stands z h n b) (once : AreOnce h n b.0) (opened : OpenIsAsked h.callers h.asked) where
   -- an open call that is answered
   module _ (at : ℕ) (s : LibraryState) (here : n.node at ≡ a_library s) (place : ℕ) (c : OpenCall) (is : slice_get s.calls place ≡ Some c) where
     its-used : IsUsed h.callers c.request.caller c.request.call
@@ -109,6 +65,11 @@ module _ (z : Sizes) (few : z.bricks ≤ 64) (some : z.libraries ≤ 16) (h : Hi
           there = owned.there;
           past = k.last.callers c.request.caller owned.caller c.request.call owned.there owned.call;
         }
+
+    its-asked : is_asked h.asked c.request.caller c.request.call ≡ true
+    its-asked =
+        let owned = all-is (IsOwned h.callers at) s.calls place c (own-calls z h n b at s k here).owned is in
+        opened c.request.caller owned.caller c.request.call owned.there owned.call
 
     its-phase : PhaseOk z s.known c.request.op c.phase
     its-phase =
@@ -129,10 +90,16 @@ module _ (z : Sizes) (few : z.bricks ≤ 64) (some : z.libraries ≤ 16) (h : Hi
     loses-by from l r (was_full waiting brick p e) = λ is_lost. absurd (no-loss r (ap is_loss (sym e)) is_lost)
     loses-by from l r (met m w e) = λ is_lost. absurd (no-loss r (ap is_loss (sym e)) is_lost)
 
+    not-shut : IsShut h.callers c.request.caller c.request.call → ⊥
+    not-shut shut =
+        let owned = all-is (IsOwned h.callers at) s.calls place c (own-calls z h n b at s k here).owned is in
+        let who : owned.caller ≡ shut.who = (let two : Some owned.caller ≡ Some shut.who = sym owned.there ∙ shut.there in cc) in
+        shut.shut (ap (λ (x : Caller). x.call) (sym who) ∙ owned.call)
+
   -- what is so of each call that an event answers
   abbrev Answered : Event → ℕ → CallNo → Reply → Type 0
   Answered e i call r = IsUsed (opened_of h.callers e) i call ×
-      (LosesUpdate (goes h e).asked i call r × AllByRecursion (IsEarlier h.steps i call) (goes h e).made)
+      (LosesUpdate (goes h e).asked i call r × AllByRecursion (IsEarlier h.steps i call) (goes h e).made × (is_asked (goes h e).asked i call ≡ true))
 
   -- where an event has no points, all points stand before it
   all-earlier : (i : ℕ) (call : CallNo) → AllByRecursion (λ (m : trace.Made). m.place < h.steps) h.made
@@ -159,7 +126,11 @@ module _ (z : Sizes) (few : z.bricks ≤ 64) (some : z.libraries ≤ 16) (h : Hi
       let loses = loses-by at s f.here w.by.index c w.by.there from l w.reply because in
       subst (ReplySays (Answered e)) (sym w.is) (
         its-used at s f.here w.by.index c w.by.there,
-        ((λ lost. all-append (IsUpdate c.request.caller c.request.call) h.asked [] (loses lost) tt), all-earlier c.request.caller c.request.call places),
+        (
+          (λ lost. all-append (IsUpdate c.request.caller c.request.call) h.asked [] (loses lost) tt),
+          all-earlier c.request.caller c.request.call places,
+          asked-more h.asked [] c.request.caller c.request.call (its-asked at s f.here w.by.index c w.by.there),
+        ),
       )) t.replies
   answers (library_asked at caller call o s) f places =
       let e = library_asked at caller call o s in
@@ -170,13 +141,48 @@ module _ (z : Sizes) (few : z.bricks ≤ 64) (some : z.libraries ≤ 16) (h : Hi
       (λ x is.
       let again = begins-again d r t x (new-begins d r) is in (
         opens-used h.callers caller at call (slice_get h.callers caller) refl f.may,
-        ((λ lost. absurd (no-loss x (ap is_loss (sym again.2)) lost)), all-earlier caller call places),
+        (
+          (λ lost. absurd (no-loss x (ap is_loss (sym again.2)) lost)),
+          all-earlier caller call places,
+          asked-last h.asked (record { place = h.steps; caller = caller; call = call; op = o }),
+        ),
       ))
   answers (brick_takes at from l s) f places =
       no-calls _ (Answered (brick_takes at from l s)) (live_brick_turn s from l).out.replies (letter-tells s from l).replies
   answers (brick_told at o s) f places =
       no-calls _ (Answered (brick_told at o s)) (brick_input s o).out.replies (order-tells {L = λ to l. ⊥} s o).replies
   answers other f places = tt
+
+  -- it wasn't answered before
+  abbrev NotShut : ℕ → CallNo → Reply → Type 0
+  NotShut i call r = IsShut h.callers i call → ⊥
+
+  fresh-answers : (e : Event) → Fits z h.callers n e → AllByRecursion (ReplySays NotShut) (replies_of e)
+  fresh-answers (library_takes at from l s) f =
+      let own = own-calls z h n b at s k f.here in
+      let t = library-treats s from l f.live (differ s.calls own.apart) (made-all s.next s.calls own.below) in
+      all-map (Answers s from l) (ReplySays NotShut) (live_library_turn s from l).out.replies
+      (λ r w. subst (ReplySays NotShut) (sym w.is) (not-shut at s f.here w.by.index w.by.call w.by.there)) t.replies
+  fresh-answers (library_asked at caller call o s) f =
+      let t = begin (desk_of s s.calls) (new_request caller call o) in
+      began NotShut caller call (record { library = s.number; number = s.next }) t.went.reply
+      (λ x is shut.
+      free-unused h.callers caller caller call call (may-free h.callers caller at call f.may)
+      (record { who = shut.who; there = shut.there; past = shut.past }) refl refl)
+  fresh-answers (brick_takes at from l s) f = no-calls _ NotShut (live_brick_turn s from l).out.replies (letter-tells s from l).replies
+  fresh-answers (brick_told at o s) f = no-calls _ NotShut (brick_input s o).out.replies (order-tells {L = λ to l. ⊥} s o).replies
+  fresh-answers other f = tt
+
+  -- nor by this event
+  replies-apart : (e : Event) → Fits z h.callers n e → Pairwise OtherReply (replies_of e)
+  replies-apart (library_takes at from l s) f = turn-apart h.callers at s from l (own-calls z h n b at s k f.here)
+  replies-apart (library_asked at caller call o s) f =
+      one-answer-apart caller call (record { library = s.number; number = s.next }) (begin (desk_of s s.calls) (new_request caller call o)).went.reply
+  replies-apart (brick_takes at from l s) f =
+      no-calls-apart (live_brick_turn s from l).out.replies (no-calls _ (λ i call r. ⊥) (live_brick_turn s from l).out.replies (letter-tells s from l).replies)
+  replies-apart (brick_told at o s) f =
+      no-calls-apart (brick_input s o).out.replies (no-calls _ (λ i call r. ⊥) (brick_input s o).out.replies (order-tells {L = λ to l. ⊥} s o).replies)
+  replies-apart other f = tt
 
   -- an answer that was given before
   still-ends : (e : Event) (r : Told) → Fits z h.callers n e → Ends h.callers h.asked h.made r → Ends (goes h e).callers (goes h e).asked (goes h e).made r
@@ -192,15 +198,28 @@ module _ (z : Sizes) (few : z.bricks ≤ 64) (some : z.libraries ≤ 16) (h : Hi
         lost = λ lost. all-append (IsUpdate r.caller r.call) h.asked (asked_of h.steps e) (g.lost lost)
             (all-map (IsNew h.callers (goes h e).callers h.steps) (IsUpdate r.caller r.call) (asked_of h.steps e)
             (λ x new same number. absurd (free-unused h.callers x.caller r.caller x.call r.call new.free used same number)) (asked-new z h n e f));
+        was_asked = asked-more h.asked (asked_of h.steps e) r.caller r.call g.was_asked;
       }
+
+  other-answers : (e : Event) (r : Told) → Fits z h.callers n e → Ends h.callers h.asked h.made r
+      → AllByRecursion (OtherTold r) (told_at h.steps (replies_of e))
+  other-answers e r f g =
+      told-says NotShut (OtherTold r) h.steps (replies_of e)
+      (λ x place fresh same number. fresh (subst (λ i. IsShut h.callers i x.call) same (subst (IsShut h.callers r.caller) number g.shut)))
+      (fresh-answers e f)
 
   pub ended-then : (e : Event) → Fits z h.callers n e → AreEnded h → AreEnded (goes h e)
   ended-then e f g =
       let cs = (goes h e).callers in
       let asked = (goes h e).asked in
       let made = (goes h e).made in
-      let At = λ (i : ℕ) (call : CallNo) (r : Reply). LosesUpdate asked i call r × AllByRecursion (IsEarlier h.steps i call) made in
+      let At = λ (i : ℕ) (call : CallNo) (r : Reply).
+      LosesUpdate asked i call r × AllByRecursion (IsEarlier h.steps i call) made × (is_asked asked i call ≡ true) in
       record {
+        open_calls = open-then h e g.open_calls;
+        apart = pairs-append OtherTold h.told (told_at h.steps (replies_of e)) g.apart (told-apart h.steps (replies_of e) (replies-apart e f))
+            (all-map (Ends h.callers h.asked h.made) (λ r. AllByRecursion (OtherTold r) (told_at h.steps (replies_of e))) h.told
+            (λ r q. other-answers e r f q) g.ends);
         places = all-append (λ (m : trace.Made). m.place < h.steps + 1) h.made (all_kept h.made (points_of h.steps e))
             (all-map (λ (m : trace.Made). m.place < h.steps) (λ (m : trace.Made). m.place < h.steps + 1) h.made (λ m p. omega (arith, p)) g.places)
             (kept-all (λ (m : trace.Made). m.place < h.steps + 1) h.made (points_of h.steps e)
@@ -208,7 +227,12 @@ module _ (z : Sizes) (few : z.bricks ≤ 64) (some : z.libraries ≤ 16) (h : Hi
         ends = all-append (Ends cs asked made) h.told (told_at h.steps (replies_of e))
             (all-map (Ends h.callers h.asked h.made) (Ends cs asked made) h.told (λ r q. still-ends e r f q) g.ends)
             (told-says (λ i call r. IsShut cs i call × At i call r) (Ends cs asked made) h.steps (replies_of e)
-            (λ r place w. record { shut = w.0; before = subst (λ p. AllByRecursion (IsEarlier p r.caller r.call) made) (sym place) w.1.1; lost = w.1.0 })
+            (λ r place w. record {
+              shut = w.0;
+              before = subst (λ p. AllByRecursion (IsEarlier p r.caller r.call) made) (sym place) w.1.1;
+              lost = w.1.0;
+              was_asked = w.1.2;
+            })
             (replies-shut At (opened_of h.callers e) (replies_of e) (answers e f g.places)));
       }
 
@@ -226,5 +250,17 @@ run-ended o journal h run =
     (Both (Both (Stands z) (AreOnceOver z)) (λ i n b u. AreEnded i)) journal (start o) few
     (kept-over z ((Book × talk.Books) × Unit {0}) (both_books (λ i n e b. (booked e b.0, talk.adds i n e b.1)) (λ i n e b u. tt))
     (Both (Stands z) (AreOnceOver z)) (Unit {0}) (λ i n e b u. tt) (λ i n b u. AreEnded i) low
-    (λ i n e b u built f k after g. ended-then z few some i n b.0 built k.0 k.1 e f g))
-    (record { sized = first.sized; books = (first.books, tt); is = (first.is, record { places = tt; ends = tt }) }) run).is.1
+    (λ i n e b u built f k after g. ended-then z few some i n b.0 built k.0 k.1 g.open_calls e f g))
+    (record {
+      sized = first.sized;
+      books = (first.books, tt);
+      is = (
+        first.is,
+        record {
+          open_calls = λ k x call e f. absurd (none-open o.libraries o.callers 0 k x call e f);
+          apart = tt;
+          places = tt;
+          ends = tt;
+        },
+      );
+    }) run).is.1

@@ -4,7 +4,7 @@ use Rattle.std.specs.List.{AllByRecursion}
 use Rattle.std.specs.Prelude.{slice_get}
 use Rattle.dds_attempts.proofs.Turns.{all-from}
 use Rattle.dds_base.specs.Op.{is_get}
-use Rattle.dds_client_view.proofs.Ended.{AreEnded, Ends, IsEarlier, IsUpdate}
+use Rattle.dds_client_view.proofs.Ends.{AreEnded, Ends, IsEarlier, IsUpdate}
 use Rattle.dds_client_view.proofs.Sees.{HasOp, IsOver, IsOverBy, all-passed, answer-has, answer-own}
 use Rattle.dds_cluster.specs.declared.trace.Asked.{Asked}
 use Rattle.dds_cluster.specs.declared.trace.Told.{Told}

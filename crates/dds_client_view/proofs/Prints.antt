@@ -11,7 +11,7 @@ use Rattle.dds_base.specs.declared.leaf.Leaf.{Leaf}
 use Rattle.dds_base.specs.declared.number.NodeNo.{NodeNo}
 use Rattle.dds_base.specs.declared.op.Order.TheVariants as order
 use Rattle.dds_client_view.proofs.Calls.{IsBefore, told_answer}
-use Rattle.dds_client_view.specs.Law.{body, is_last}
+use Rattle.dds_client_view.specs.Seen.{body, is_last}
 use Rattle.dds_client_view.specs.Seen.{answer_on, answers_in, is_busy}
 use Rattle.dds_cluster.specs.Trace.{adds, is_possible, next, replies_in, told_at}
 use Rattle.dds_cluster.specs.Turn.{turn}

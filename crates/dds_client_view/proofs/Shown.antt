@@ -6,29 +6,27 @@ use Rattle.std.specs.List.{AllByRecursion}
 use Rattle.std.proofs.lemmas.List.{append-nil, length-replicate}
 use Rattle.std.proofs.lemmas.List.Elements.{filter-append}
 use Rattle.dds_base.specs.declared.number.CallNo.{CallNo}
-use Rattle.dds_client_view.proofs.Client.{client-sees}
-use Rattle.dds_client_view.proofs.Ended.{AreEnded, run-ended}
-use Rattle.dds_client_view.proofs.Lines.{seen_between, shows-lines}
+use Rattle.dds_client_view.proofs.Client.{answers-fit, client-sees}
+use Rattle.dds_client_view.proofs.Lines.{all-told, walk-ended, seen_between, shows-lines}
 use Rattle.dds_client_view.proofs.Over.{are-over}
 use Rattle.dds_client_view.proofs.Sees.{have-ops}
 use Rattle.dds_client_view.proofs.Order.{IsInOrder, run-in-order}
 use Rattle.dds_client_view.proofs.Shows.{Shows}
-use Rattle.dds_client_view.specs.Law.{IsShown, body, is_last, prints}
+use Rattle.dds_client_view.specs.Law.{IsShown, prints}
+use Rattle.dds_client_view.specs.Seen.{body, is_last}
 use Rattle.dds_client_view.proofs.Printed.{seen_from}
 use Rattle.dds_client_view.specs.Seen.{SeenLine, printed_by}
 use Rattle.dds_cluster.specs.Trace.{run_of}
 use Rattle.dds_cluster.specs.declared.step.TheConstants.{EVENTS}
 use Rattle.dds_cluster.specs.declared.trace.Caller.{Caller}
-use Rattle.dds_cluster.specs.declared.trace.Trace.{Trace}
-use Rattle.dds_net.specs.Event.{history_of}
 use Rattle.dds_script.specs.Opening.{IsOpening, IsScript, OpeningOf, ScriptOf, ranges_of}
-use Rattle.dds_script.specs.Ranges.{IsInRanges, IsRanges}
+use Rattle.dds_script.specs.Ranges.{IsInRanges}
 use Rattle.dds_script.specs.declared.line.Line.{Line}
 use Rattle.dds_transcript.specs.declared.report_line.OrderKind.{OrderKind}
 use Rattle.dds_transcript.specs.declared.report_line.ReportLine.{ReportLine}
 use Rattle.dds_transcript.specs.declared.report_line.ReportLine.TheVariants as report
 use Rattle.dds_walk.proofs.AlongLines.{lines-alone}
-use Rattle.dds_walk.proofs.Walked.{IsWalked, steps-run, walked-first, walked-line}
+use Rattle.dds_walk.proofs.Walked.{IsWalked, walked-first, walked-line}
 use Rattle.dds_walk.specs.Walk.{ended, first_walk, last_lines, line_done, lines_done, open_call_of, open_calls, open_order_of, open_orders, steps}
 use Rattle.dds_walk.specs.declared.walk.Walk.{Walk}
 use Rattle.dds_world.specs.Stands.{Stands, history}
@@ -52,6 +50,8 @@ shows-first script =
       plain = refl;
       made = tt;
       busy = tt;
+      fresh = tt;
+      waits = tt;
     }
 
 walked-all : (o : OpeningOf) (limit : ℕ) (w : Walk) (ls : List Line) → o.bricks ≤ 64 → AllByRecursion (IsInRanges (ranges_of o)) ls → IsWalked o w
@@ -59,10 +59,10 @@ walked-all : (o : OpeningOf) (limit : ℕ) (w : Walk) (ls : List Line) → o.bri
 walked-all o limit w [] few h g = g
 walked-all o limit w (l ∷ ls) few h g = walked-all o limit (line_done limit w l) ls few h.1 (walked-line o limit w l few h.0 g)
 
-shows-all : (limit : ℕ) (script : ScriptOf) → IsRanges (ranges_of script.opening) → AllByRecursion (IsInRanges (ranges_of script.opening)) script.lines
+shows-all : (limit : ℕ) (script : ScriptOf) → IsOpening script.opening → AllByRecursion (IsInRanges (ranges_of script.opening)) script.lines
     → Shows (seen_from limit (first_walk script None) script.lines) (lines_done limit (first_walk script None) script.lines)
-shows-all limit script r h =
-    shows-lines script.opening limit [] (first_walk script None) script.lines r.bricks h (walked-first script) (length-replicate script.opening.callers 0)
+shows-all limit script opening h =
+    shows-lines script.opening limit [] (first_walk script None) script.lines opening h (walked-first script) (length-replicate script.opening.callers 0)
     (shows-first script)
 
 -- the script's lines and beginnings of them
@@ -112,12 +112,12 @@ body-ended w plain =
     ∙ append-nil w.lines
 
 -- what lines print
-body-printed : (script : ScriptOf) → IsRanges (ranges_of script.opening) → AllByRecursion (IsInRanges (ranges_of script.opening)) script.lines
+body-printed : (script : ScriptOf) → IsOpening script.opening → AllByRecursion (IsInRanges (ranges_of script.opening)) script.lines
     → body (prints script.opening script.lines) ≡ printed_by (seen_from EVENTS (first_walk script None) script.lines)
-body-printed script r h =
+body-printed script opening h =
     let v = lines_done EVENTS (first_walk script None) script.lines in
-    let shows = shows-all EVENTS script r h in
-    ap body (sym (lines-alone EVENTS script r h)) ∙ body-ended v shows.plain ∙ sym shows.printed
+    let shows = shows-all EVENTS script opening h in
+    ap body (sym (lines-alone EVENTS script opening.ranges h)) ∙ body-ended v shows.plain ∙ sym shows.printed
 
 -- of a script whose run stands
 pub is-shown : (script : ScriptOf) → IsOpening script.opening → IsScript script → Stands (run_of script.opening (steps script)) → IsShown script
@@ -129,17 +129,17 @@ is-shown script opening h stands =
     let seen = seen_from EVENTS first script.lines in
     let walked = walked-all o EVENTS first script.lines r.bricks h.lines (walked-first script) in
     let in_order : IsInOrder v.trace = subst IsInOrder (sym walked.trace) (run-in-order o v.steps) in
-    let ended : AreEnded (history_of v.trace) =
-    subst (λ (t : Trace). AreEnded (history_of t)) (sym walked.trace) (run-ended o v.steps opening (steps-run EVENTS script r h.lines)) in
-    let shows = shows-all EVENTS script r h.lines in
+    let ended = walk-ended o v opening walked in
+    let shows = shows-all EVENTS script opening h.lines in
     let stand : Stands v.trace = subst Stands (sym walked.trace) stands in
     record {
       seen = seen;
       is_seen = record {
         same = same-lines EVENTS first script.lines;
         printed = λ n.
-            body-printed (record { opening = o; lines = take n script.lines }) r (all-take (IsInRanges (ranges_of o)) n script.lines h.lines)
+            body-printed (record { opening = o; lines = take n script.lines }) opening (all-take (IsInRanges (ranges_of o)) n script.lines h.lines)
             ∙ ap printed_by (seen-take EVENTS first n script.lines);
       };
       sees = client-sees seen v shows in_order stand (are-over v.trace ended stand.entries_are_calls (have-ops v.trace.asked shows.apart));
+      fits = answers-fit seen v shows (all-told v ended) ended.apart;
     }

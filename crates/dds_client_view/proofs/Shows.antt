@@ -6,9 +6,10 @@ use Rattle.std.specs.List.{AllByRecursion}
 use Rattle.std.proofs.lemmas.Grind.{flat_map-append}
 use Rattle.std.proofs.lemmas.List.{append-nil, length-append, map-append}
 use Rattle.std.proofs.lemmas.List.Elements.{filter-append}
-use Rattle.dds_client_view.proofs.Calls.{AreMade, IsBefore, made-later, told_answer}
+use Rattle.dds_client_view.proofs.Calls.{AreMade, IsBefore, made-later, told_answer, made_calls}
 use Rattle.dds_client_view.proofs.Prints.{IsAside, Prints}
-use Rattle.dds_client_view.specs.Law.{body, is_last}
+use Rattle.dds_client_view.specs.Client.{IsBusyFor, IsUnansweredBefore}
+use Rattle.dds_client_view.specs.Seen.{body, is_last}
 use Rattle.dds_client_view.specs.Seen.{SeenCall, SeenLine, answer_on, answers_in, call_of, calls_behind, calls_in, is_line_of, lines_of, printed_by}
 use Rattle.dds_cluster.specs.Lists.{is_asked}
 use Rattle.dds_cluster.specs.declared.trace.Asked.{Asked}
@@ -20,10 +21,6 @@ use Rattle.dds_script.specs.declared.line.Line.TheVariants as line
 use Rattle.dds_transcript.specs.declared.report_line.ReportLine.{ReportLine}
 use Rattle.dds_walk.specs.declared.walk.Walk.{Walk}
 
--- the calls whose callers weren't busy
-abbrev pub made_calls : List SeenCall → List SeenCall
-made_calls calls = filter (λ c. not c.busy) calls
-
 -- a call whose caller was busy was never made
 abbrev pub IsUnmade : List Asked → SeenCall → Type 0
 IsUnmade asked c = c.busy ≡ true → is_asked asked c.caller c.call ≡ false
@@ -34,6 +31,10 @@ IsNumbered before c = c.call.0 < lines_of c.caller before
 
 abbrev pub IsOld : List SeenLine → Asked → Type 0
 IsOld before a = a.call.0 < lines_of a.caller before
+
+-- each answer is to a call that was asked
+abbrev pub IsAsked : List Asked → Told → Type 0
+IsAsked asked r = is_asked asked r.caller r.call ≡ true
 
 -- two calls have different callers or numbers
 abbrev pub IsOther : Asked → Asked → Type 0
@@ -51,6 +52,8 @@ IsOther a b = a.caller ≡ b.caller → a.call.0 ≡ b.call.0 → ⊥
 -- | `made`                      | the run's calls are those of the lines whose callers weren't busy, each with what was printed  |
 -- |                             | before its line                                                                                |
 -- | `busy`                      | a call whose caller was busy was never made                                                    |
+-- | `fresh`                     | no call was answered before its line                                                           |
+-- | `waits`                     | a caller was busy only where an earlier call of it was open                                    |
 pub record Shows (before : List SeenLine) (w : Walk) : Type 0 where
   pub printed : printed_by before ≡ w.lines
   pub answers : answers_in w.lines ≡ map told_answer w.trace.told
@@ -62,6 +65,8 @@ pub record Shows (before : List SeenLine) (w : Walk) : Type 0 where
   pub plain : body w.lines ≡ w.lines
   pub made : AreMade w.trace.told (made_calls (calls_in before)) w.trace.asked
   pub busy : AllByRecursion (IsUnmade w.trace.asked) (calls_in before)
+  pub fresh : AllByRecursion IsUnansweredBefore (calls_in before)
+  pub waits : AllByRecursion (IsBusyFor (calls_in before)) (calls_in before)
 
 -- one line more
 pub printed-push : (before : List SeenLine) (s : SeenLine) → printed_by (before ++ s ∷ []) ≡ printed_by before ++ s.printed
@@ -161,4 +166,6 @@ shows-aside before w v s g e aside h =
           (made-later w.trace.told g.later v.trace.told (made_calls (calls_in before)) w.trace.asked g.told h.made));
       busy = subst (λ (l : List SeenCall). AllByRecursion (IsUnmade v.trace.asked) l) (sym calls)
           (subst (λ (l : List Asked). AllByRecursion (IsUnmade l) (calls_in before)) (sym asked) h.busy);
+      fresh = subst (AllByRecursion IsUnansweredBefore) (sym calls) h.fresh;
+      waits = subst (λ (l : List SeenCall). AllByRecursion (IsBusyFor l) l) (sym calls) h.waits;
     }

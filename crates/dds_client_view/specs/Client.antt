@@ -1,13 +1,13 @@
 -- What is promised to somebody who only uses the table.
-use Rattle.std.specs.Prelude.{not, ◌||◌, ◌≡◌, ◌≤◌, ◌⊎◌, Bool, true, false, ◌&&◌, ◌==◌, List, [], ◌∷◌, Option, Some, None, filter, length}
-use Rattle.std.specs.List.{AllByRecursion}
+use Rattle.std.specs.Prelude.{nat_lt, is_none, not, ◌||◌, ◌≡◌, ◌≤◌, ◌⊎◌, Bool, true, false, ◌&&◌, ◌==◌, List, [], ◌∷◌, Option, Some, None, filter, length}
+use Rattle.std.specs.List.{AllByRecursion, list_any}
 use Rattle.dds_base.specs.Op.{is_get}
 use Rattle.dds_base.specs.declared.op.Op.{Op}
 use Rattle.dds_base.specs.declared.op.Reply.{Reply}
 use Rattle.dds_base.specs.declared.op.Reply.TheVariants as reply
 use Rattle.dds_history.specs.History.{IsLegal}
 use Rattle.dds_history.specs.declared.entry.Entry.{Entry}
-use Rattle.dds_client_view.specs.Seen.{SeenCall, SeenLine, answer_in, calls_in, printed_by}
+use Rattle.dds_client_view.specs.Seen.{SeenAnswer, SeenCall, SeenLine, answer_in, answers_in, calls_in, first_answer, is_answer_to, printed_by}
 
 -- what became of a call by the end: its caller was busy, or it was answered, or it is still open
 pub data Fate : Type 0 where
@@ -24,15 +24,20 @@ fate_by false None = Open
 abbrev pub fate : List SeenLine → SeenCall → Fate
 fate seen c = fate_by c.busy (answer_in (printed_by seen) c)
 
--- a reply is a result: the call was done
+-- the reply says that nothing was done
+abbrev pub is_refusal : Reply → Bool
+is_refusal (reply.Again met) = true
+is_refusal (reply.Full brick) = true
+is_refusal other = false
+
+-- the reply says that the update may have been done or not
+abbrev pub is_loss : Reply → Bool
+is_loss (reply.Lost name) = true
+is_loss other = false
+
+-- any other reply is a result: the call was done
 abbrev pub is_result : Reply → Bool
-is_result (reply.Value value) = true
-is_result reply.Absent = true
-is_result (reply.Done was) = true
-is_result (reply.Swapped done) = true
-is_result (reply.Again met) = false
-is_result (reply.Full brick) = false
-is_result (reply.Lost name) = false
+is_result reply = not (is_refusal reply || is_loss reply)
 
 -- an entry of the list is of this call
 abbrev pub is_entry_of : SeenCall → Entry → Bool
@@ -54,21 +59,6 @@ HasOneBy c (Answered reply) own = is_result reply ≡ true → own ≡ entry_of 
 
 abbrev pub HasOne : List SeenLine → List Entry → SeenCall → Type 0
 HasOne seen entries c = HasOneBy c (fate seen c) (entries_of entries c)
-
--- the reply says that nothing was done
-abbrev pub is_refusal : Reply → Bool
-is_refusal (reply.Value value) = false
-is_refusal reply.Absent = false
-is_refusal (reply.Done was) = false
-is_refusal (reply.Swapped done) = false
-is_refusal (reply.Again met) = true
-is_refusal (reply.Full brick) = true
-is_refusal (reply.Lost name) = false
-
--- the reply says that the update may have been done or not
-abbrev pub is_loss : Reply → Bool
-is_loss (reply.Lost name) = true
-is_loss other = false
 
 -- nothing was done: the caller was busy, or the call was answered Again or Full, or it is a get that was answered with no result, or is
 -- still open
@@ -122,3 +112,32 @@ pub record ClientSees (seen : List SeenLine) : Type 0 where
   pub unanswered : AllByRecursion (HasAtMostOne seen entries) (calls_in seen)
   pub others : AllByRecursion (IsOfACall (calls_in seen)) entries
   pub ordered : AllByRecursion (λ d. AllByRecursion (λ c. IsOrdered entries c d) (calls_in seen)) (calls_in seen)
+
+-- an answer is to one of the calls, whose caller wasn't busy
+abbrev pub IsToACall : List SeenCall → SeenAnswer → Type 0
+IsToACall calls r = list_any (is_answer_to r) calls ≡ true
+
+-- no answer to the call was printed before its line stood
+abbrev pub IsUnansweredBefore : SeenCall → Type 0
+IsUnansweredBefore c = answer_in c.before c ≡ None
+
+-- no call is answered twice
+abbrev pub AreToOthers : List SeenAnswer → Type 0
+AreToOthers [] = Unit {0}
+AreToOthers (r ∷ rs) = (first_answer rs r.caller r.call ≡ None) × AreToOthers rs
+
+-- the second call was open when the line of the first one stood
+abbrev pub is_open_at : SeenCall → SeenCall → Bool
+is_open_at c d = not d.busy && (d.caller == c.caller && (nat_lt d.call.0 c.call.0 && is_none (answer_in c.before d)))
+
+-- a caller is busy only where an earlier call of it was open
+abbrev pub IsBusyFor : List SeenCall → SeenCall → Type 0
+IsBusyFor calls c = c.busy ≡ true → list_any (is_open_at c) calls ≡ true
+
+-- What is printed is in order: each answer is to one of the calls whose callers weren't busy, no call is answered twice, or before its line;
+-- and a caller is busy only where an earlier call of it isn't answered yet.
+pub record AnswersFit (seen : List SeenLine) : Type 0 where
+  pub answers : AllByRecursion (IsToACall (calls_in seen)) (answers_in (printed_by seen))
+  pub once : AreToOthers (answers_in (printed_by seen))
+  pub behind : AllByRecursion IsUnansweredBefore (calls_in seen)
+  pub busy : AllByRecursion (IsBusyFor (calls_in seen)) (calls_in seen)

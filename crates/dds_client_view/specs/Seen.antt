@@ -1,5 +1,5 @@
 -- A script beside what it printed, and the calls that somebody who only uses the table reads there.
-use Rattle.std.specs.Prelude.{ℕ, Bool, true, false, ◌&&◌, ◌==◌, List, [], ◌∷◌, ◌++◌, Option, Some, None, filter, length, if◌then◌else◌}
+use Rattle.std.specs.Prelude.{◌≡◌, map, take, not, ℕ, Bool, true, false, ◌&&◌, ◌==◌, List, [], ◌∷◌, ◌++◌, Option, Some, None, filter, length, if◌then◌else◌}
 use Rattle.std.specs.List.{flat_map, list_any}
 use Rattle.dds_base.specs.declared.number.CallNo.{CallNo}
 use Rattle.dds_base.specs.declared.op.Op.{Op}
@@ -17,6 +17,26 @@ pub record SeenLine : Type 0 where
 -- all that these lines printed
 abbrev pub printed_by : List SeenLine → List ReportLine
 printed_by seen = flat_map (λ s. s.printed) seen
+
+-- a line of those that end a transcript: no line of the script prints it
+abbrev pub is_last : ReportLine → Bool
+is_last (report.OpenCall caller call) = true
+is_last (report.OpenOrder kind brick) = true
+is_last (report.History entries) = true
+is_last (report.Count what number) = true
+is_last report.End = true
+is_last other = false
+
+-- a transcript without its last lines
+abbrev pub body : List ReportLine → List ReportLine
+body lines = filter (λ l. not (is_last l)) lines
+
+-- each line of the script with what it printed, where this is the transcript of any lines: the transcript of so many of the
+-- lines, its last lines aside, is what these lines printed. So what a line printed is what the transcript up to it has more than
+-- the one up to the line before.
+pub record IsSeen (prints : List Line → List ReportLine) (lines : List Line) (seen : List SeenLine) : Type 0 where
+  pub same : map (λ s. s.line) seen ≡ lines
+  pub printed : (n : ℕ) → body (prints (take n lines)) ≡ printed_by (take n seen)
 
 -- the line is one of the caller's call lines
 abbrev pub is_line_of : ℕ → Line → Bool
@@ -85,3 +105,7 @@ first_answer (r ∷ rs) caller call = if r.caller == caller && r.call.0 == call.
 -- what a call was answered in these lines of the transcript
 abbrev pub answer_in : List ReportLine → SeenCall → Option Reply
 answer_in lines c = first_answer (answers_in lines) c.caller c.call
+
+-- the answer is to this call, whose caller wasn't busy
+abbrev pub is_answer_to : SeenAnswer → SeenCall → Bool
+is_answer_to r c = not c.busy && (c.caller == r.caller && c.call.0 == r.call.0)
