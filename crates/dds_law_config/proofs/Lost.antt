@@ -1,6 +1,5 @@
-use Rattle.std.proofs.Common.{◌≡◌, ℕ, ◌⊎◌, inl, inr, ◌<◌, ◌==◌, ◌&&◌, ◌||◌, Bool, true, false, Option, Some, None, List, [], ◌∷◌, refl, sym, ap, ◌∙◌, subst}
+use Rattle.std.proofs.Common.{◌≡◌, ℕ, inl, inr, ◌<◌, ◌==◌, ◌&&◌, ◌||◌, Bool, true, false, Option, Some, None, List, refl, sym, ap, ◌∙◌, subst}
 use Rattle.std.proofs.lemmas.Bool.{and_parts, both_ways, cases_eq, ne_eqb}
-use Rattle.std.specs.List.{AllByRecursion, list_all}
 use Rattle.std.specs.Prelude.{take}
 use Rattle.dds_base.specs.BrickList.{has}
 use Rattle.dds_base.specs.NodeSet.{has_node, with_node}
@@ -9,7 +8,7 @@ use Rattle.dds_base.specs.declared.op.Reply.{Reply}
 use Rattle.dds_base.specs.declared.op.Reply.TheVariants as reply
 use Rattle.dds_base.specs.Name.{Name}
 use Rattle.dds_cluster.specs.Trace.{has_first, is_run, run_of}
-use Rattle.dds_cluster.specs.World.{World, brick_at, is_node, link}
+use Rattle.dds_cluster.specs.World.{World, is_node, link}
 use Rattle.dds_cluster.specs.declared.step.Step.{Step}
 use Rattle.dds_cluster.specs.declared.step.Step.TheVariants as step
 use Rattle.dds_cluster.specs.declared.trace.Asked.{Asked}
@@ -31,7 +30,7 @@ use Rattle.dds_states.specs.declared.brick_state.BrickState.{BrickState}
 use Rattle.dds_states.specs.declared.library_state.LibraryState.{LibraryState}
 use Rattle.dds_world.specs.Causes.{CausedBy, LostAt}
 use Rattle.dds_world.specs.Stands.{answer_to}
-use Rattle.dds_world.specs.Places.{HasStopped, IsLive, Travels, world_at}
+use Rattle.dds_world.specs.Places.{HasStopped, IsLive, world_at}
 use Rattle.dds_law_config.specs.Law.{IsNotLost, KeptMembersLoseNothing, ListsKeepAMember, is_lost}
 
 -- A call that was answered Lost had no live member left.

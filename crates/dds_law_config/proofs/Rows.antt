@@ -1,6 +1,5 @@
 use Rattle.std.proofs.Common.{◌≡◌, Bool, true, false, Option, Some, None, List, [], refl, sym, ap, subst}
 use Rattle.std.proofs.lemmas.Bool.{both_ways}
-use Rattle.std.specs.Prelude.{if◌then◌else◌}
 use Rattle.dds_answered.proofs.Results.{Result, applied, got_absent, got_value, result}
 use Rattle.dds_answered.proofs.Results.{reply-if, same-reply}
 use Rattle.dds_base.specs.Number.{Txn}
@@ -11,7 +10,7 @@ use Rattle.dds_base.specs.declared.number.NodeNo.{NodeNo}
 use Rattle.dds_base.specs.declared.op.Reply.{Reply}
 use Rattle.dds_base.specs.declared.op.Reply.TheVariants as reply
 use Rattle.dds_books.specs.Placed.{PhaseOk}
-use Rattle.dds_call_rows.specs.Library.{CallTurn, call_concerns, first_flag, goes_without, got_in, lost_or_applied, replies, stays}
+use Rattle.dds_call_rows.specs.Library.{call_concerns, first_flag, goes_without, got_in, lost_or_applied, replies, stays}
 use Rattle.dds_core.specs.LibraryTurn.{call_row}
 use Rattle.dds_history.specs.Map.{reply_with}
 use Rattle.dds_letters.specs.declared.letter.Letter.{Letter}
