@@ -23,6 +23,7 @@ pub mod Frozen
 pub mod PointsOutside
 pub mod Served
 pub mod LeavesKeep
+pub mod Late
 pub mod Runs
 pub mod Servers
 pub mod Steps

@@ -2,6 +2,7 @@ use Rattle.std.proofs.Common.{◌≡◌, ℕ, ◌++◌, true, Some, None, List, 
 use Rattle.std.proofs.Math.Seq.{take-append_seam}
 use Rattle.std.proofs.lemmas.Bool.{and_parts}
 use Rattle.std.proofs.lemmas.List.{append-nil, append_assoc, take-append-drop}
+use Rattle.std.specs.List.{AllByRecursion}
 use Rattle.std.specs.Prelude.{take}
 use Rattle.dds_cluster.specs.Trace.{all_kept, is_possible, is_run, is_run_from, next, run_of, start, trace_from}
 use Rattle.dds_cluster.specs.World.{brick_at}
@@ -35,10 +36,10 @@ use Rattle.dds_copies.proofs.Keeps.{joins-kept}
 use Rattle.dds_copies.proofs.LeavesKeep.{leaves-kept}
 use Rattle.dds_copies.proofs.Frozen.{servers-leased}
 use Rattle.dds_copies.proofs.Outside.{all-outside, points-keep}
-use Rattle.dds_copies.proofs.PointsOutside.{come-outside}
+use Rattle.dds_copies.proofs.PointsOutside.{IsFrozen, come-outside, frozen-outside}
 use Rattle.dds_copies.specs.Copies.{JoinsCopy}
 use Rattle.dds_copies.specs.Frozen.{BoundJoinsAreFrozen}
-use Rattle.dds_copies.specs.Outside.{ComeOutside}
+use Rattle.dds_copies.specs.Outside.{ComeOutside, IsOutside}
 use Rattle.dds_copies.specs.Runs.{JoinsCopyTheTable, ValuesAreHeld}
 
 -- Along each run: as far as bricks that serve what their joins made hold the table, live bricks do, so what sources send is the table's; so
@@ -128,6 +129,8 @@ module _ (o : OpeningOf) (journal : List Step) (h : IsOpening o) (run : is_run o
     made : (run_of o (Grown was x)).made ≡ (run_of o was).made ++ more
     low : AreLow (sizes_of o) (net_of o (Grown was x))
     outside : ComeOutside (net_of o (Grown was x)) more
+    frozen :
+        (k : ℕ) (s : BrickState) (q : OpenOrder) → IsFrozen (net_of o was) (net_of o (Grown was x)) k s q → AllByRecursion (IsOutside q.name) more
     copy : JoinsCopy (table (run_of o was).made) (net_of o (Grown was x))
 
   next-is-so : (was rest : List Step) (x : Step) → was ++ x ∷ rest ≡ journal → is_possible (run_of o was) x ≡ true → Along o was → Next was x
@@ -146,6 +149,8 @@ module _ (o : OpeningOf) (journal : List Step) (h : IsOpening o) (run : is_run o
         made = ap (λ (i : History). i.made) past;
         low = subst (AreLow z) (sym after) (low-kept z h.ranges.bricks h.ranges.libraries (history_of t) n m.event tt g.all.built m.fits a.low);
         outside = subst (λ v. ComeOutside v more) (sym after) (come-outside z t.callers t.made n g m.event m.fits t.steps);
+        frozen = λ k s q b.
+            frozen-outside z t.callers t.made n g m.event m.fits t.steps k s q (subst (λ v. IsFrozen n v k s q) after b);
         copy = subst (JoinsCopy (table t.made)) (sym after) (joins-kept z t.callers t.made n g m.event m.fits);
       }
 
