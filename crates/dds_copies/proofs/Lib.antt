@@ -24,6 +24,7 @@ pub mod PointsOutside
 pub mod Served
 pub mod LeavesKeep
 pub mod Late
+pub mod LateEvents
 pub mod Runs
 pub mod Servers
 pub mod Steps

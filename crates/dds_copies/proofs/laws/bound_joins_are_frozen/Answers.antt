@@ -1,4 +1,4 @@
-use Rattle.dds_copies.proofs.Late.{late-kept}
+use Rattle.dds_copies.proofs.LateEvents.{late-event}
 use Rattle.dds_copies.proofs.Runs.{joins-frozen}
 use Rattle.dds_copies.proofs.laws.bound_joins_are_frozen.Goals as goal
 
