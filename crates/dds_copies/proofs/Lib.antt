@@ -25,7 +25,9 @@ pub mod Served
 pub mod LeavesKeep
 pub mod Late
 pub mod LateEvents
+pub mod LateBegins
 pub mod Runs
+pub mod LateRuns
 pub mod Servers
 pub mod Steps
 pub mod Ends

@@ -74,13 +74,13 @@ trace-grown t [] x = refl
 trace-grown t (y ∷ journal) x = trace-grown (next t y) journal x
 
 -- after a beginning of the journal
-record Along (o : OpeningOf) (was : List Step) : Type 0 where
-  low : AreLow (sizes_of o) (net_of o was)
-  serves : JoinsServeTheTable o was
-  copy : JoinsCopy (table (run_of o was).made) (net_of o was)
+pub record Along (o : OpeningOf) (was : List Step) : Type 0 where
+  pub low : AreLow (sizes_of o) (net_of o was)
+  pub serves : JoinsServeTheTable o was
+  pub copy : JoinsCopy (table (run_of o was).made) (net_of o was)
 
 module _ (o : OpeningOf) (journal : List Step) (h : IsOpening o) (run : is_run o journal ≡ true) (talk : TalkAlong o journal) where
-  front-run : (front rest : List Step) → front ++ rest ≡ journal → is_run o front ≡ true
+  pub front-run : (front rest : List Step) → front ++ rest ≡ journal → is_run o front ≡ true
   front-run front rest whole =
       subst (λ j. is_run o j ≡ true) (ap (take (length front)) (sym whole) ∙ take-append_seam front rest) (run-take (start o) journal (length front) run)
 
@@ -91,7 +91,7 @@ module _ (o : OpeningOf) (journal : List Step) (h : IsOpening o) (run : is_run o
   front-of : (front more was rest : List Step) → front ++ more ≡ was → was ++ rest ≡ journal → front ++ (more ++ rest) ≡ journal
   front-of front more was rest is whole = sym (append_assoc front more rest) ∙ ap (λ j. j ++ rest) is ∙ whole
 
-  along-talks : (was rest : List Step) → was ++ rest ≡ journal → TalkAlong o was
+  pub along-talks : (was rest : List Step) → was ++ rest ≡ journal → TalkAlong o was
   along-talks was rest whole at =
       front-talks (take at was) (drop at was ++ rest) (front-of (take at was) (drop at was) was rest (take-append-drop at was) whole)
 
@@ -124,16 +124,16 @@ module _ (o : OpeningOf) (journal : List Step) (h : IsOpening o) (run : is_run o
       by (earlier left same) = a.serves front left y e same following
 
   -- the points of the next step, and the nodes and channels behind it
-  record Next (was : List Step) (x : Step) : Type 0 where
-    more : List Made
-    made : (run_of o (Grown was x)).made ≡ (run_of o was).made ++ more
-    low : AreLow (sizes_of o) (net_of o (Grown was x))
-    outside : ComeOutside (net_of o (Grown was x)) more
-    frozen :
+  pub record Next (was : List Step) (x : Step) : Type 0 where
+    pub more : List Made
+    pub made : (run_of o (Grown was x)).made ≡ (run_of o was).made ++ more
+    pub low : AreLow (sizes_of o) (net_of o (Grown was x))
+    pub outside : ComeOutside (net_of o (Grown was x)) more
+    pub frozen :
         (k : ℕ) (s : BrickState) (q : OpenOrder) → IsFrozen (net_of o was) (net_of o (Grown was x)) k s q → AllByRecursion (IsOutside q.name) more
-    copy : JoinsCopy (table (run_of o was).made) (net_of o (Grown was x))
+    pub copy : JoinsCopy (table (run_of o was).made) (net_of o (Grown was x))
 
-  next-is-so : (was rest : List Step) (x : Step) → was ++ x ∷ rest ≡ journal → is_possible (run_of o was) x ≡ true → Along o was → Next was x
+  pub next-is-so : (was rest : List Step) (x : Step) → was ++ x ∷ rest ≡ journal → is_possible (run_of o was) x ≡ true → Along o was → Next was x
   next-is-so was rest x whole p a =
       let z = sizes_of o in
       let t = run_of o was in
@@ -176,7 +176,7 @@ possible-in : (t : Trace) (was : List Step) (x : Step) → is_run_from t (Grown 
 possible-in t [] x r = (and_parts (is_possible t x) true r).0
 possible-in t (y ∷ was) x r = possible-in (next t y) was x (and_parts (is_possible t y) (is_run_from (next t y) (Grown was x)) r).1
 
-next-possible : (o : OpeningOf) (was : List Step) (x : Step) → is_run o (Grown was x) ≡ true → is_possible (run_of o was) x ≡ true
+pub next-possible : (o : OpeningOf) (was : List Step) (x : Step) → is_run o (Grown was x) ≡ true → is_possible (run_of o was) x ≡ true
 next-possible o was x r = possible-in (start o) was x r
 
 -- the opening has no open order
@@ -201,20 +201,20 @@ start-along o h =
     none : (q : OpenOrder) → None ≡ Some q → ⊥
     none q e = cc
 
-run-along : (o : OpeningOf) (journal : List Step) → IsOpening o → is_run o journal ≡ true → TalkAlong o journal → Along o journal
+pub run-along : (o : OpeningOf) (journal : List Step) → IsOpening o → is_run o journal ≡ true → TalkAlong o journal → Along o journal
 run-along o journal h run talk = all-along o journal h run talk [] journal refl run (start-along o h)
 
 pub values-held : ValuesAreHeld
 values-held o journal h run talk = held-where-given o journal h run talk (run-along o journal h run talk).serves
 
 -- a world that is reached
-record Reached (o : OpeningOf) (journal : List Step) : Type 0 where
-  along : Along o journal
-  all : AreAll (sizes_of o) (net_of o journal)
-  together : AreTogether (net_of o journal)
-  lying : AreLying (sizes_of o) (net_of o journal)
+pub record Reached (o : OpeningOf) (journal : List Step) : Type 0 where
+  pub along : Along o journal
+  pub all : AreAll (sizes_of o) (net_of o journal)
+  pub together : AreTogether (net_of o journal)
+  pub lying : AreLying (sizes_of o) (net_of o journal)
 
-run-reached : (o : OpeningOf) (journal : List Step) → IsOpening o → is_run o journal ≡ true → TalkAlong o journal → Reached o journal
+pub run-reached : (o : OpeningOf) (journal : List Step) → IsOpening o → is_run o journal ≡ true → TalkAlong o journal → Reached o journal
 run-reached o journal h run talk =
     let a = run-along o journal h run talk in
     record {

@@ -1,4 +1,3 @@
-use Rattle.dds_copies.proofs.LateEvents.{late-event}
 use Rattle.dds_copies.proofs.Runs.{joins-frozen}
 use Rattle.dds_copies.proofs.laws.bound_joins_are_frozen.Goals as goal
 
