@@ -76,12 +76,13 @@ module _ (z : Sizes) (n : Net) (source j number : ℕ) (all : AreAll z n) (toget
       ]
 
   start-counts : (x : Node) → n.node j ≡ x → Counts x number (ask number (order_name x))
+  unfolding order_name first_name
   start-counts nowhere e = tt
   start-counts (a_library s) e = tt
-  start-counts (a_brick s) e live =
+  start-counts (a_brick s) e =
       let said : Counts (a_brick s) number (letter.CopyPart number its-letter.0 its-letter.1) =
       subst (λ x. Counts x number (letter.CopyPart number its-letter.0 its-letter.1)) e (its-letter.2.said number refl).1 in
-      record {
+      λ live. record {
         given = (said live).given;
         of = λ o there is. (ap first_name there, ap order.is_leasing (phase-is s o e live there is));
       }

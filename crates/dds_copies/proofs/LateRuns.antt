@@ -1,4 +1,5 @@
-use Rattle.std.proofs.Common.{◌≡◌, ℕ, zero, suc, ◌+◌, ◌≤◌, ◌++◌, inl, inr, true, false, Some, List, [], ◌∷◌, drop, length, is_some, refl, sym, ap, ◌∙◌, subst, arith}
+use Rattle.std.proofs.Common.{◌≡◌, ℕ, zero, suc, ◌+◌, ◌≤◌, ◌++◌, inl, inr, true, false, Some, None, List, [], ◌∷◌, drop, length, is_some, refl}
+use Rattle.std.proofs.Common.{sym, ap, ◌∙◌, subst, arith}
 use Rattle.std.proofs.lemmas.Bool.{both_ways, cases_Bool, eq-eqb}
 use Rattle.std.proofs.lemmas.List.{append-nil, append_assoc, drop_all, take-append-drop}
 use Rattle.std.specs.FinMap.{get}
