@@ -1,5 +1,4 @@
-use Rattle.std.proofs.Common.{◌≡◌, ℕ, ◌≤◌, ◌⊎◌, inl, inr, true, false, Option, Some, None, refl, sym, ap, ◌∙◌, subst}
-use Rattle.std.proofs.lemmas.Bool.{both_ways, cases_eq}
+use Rattle.std.proofs.Common.{◌≡◌, ℕ, ◌⊎◌, inl, inr, true, false, Some, None, sym, subst}
 use Rattle.dds_base.specs.BrickList.{has}
 use Rattle.dds_base.specs.Name.{Name}
 use Rattle.dds_base.specs.declared.leaf.Leaf.{Leaf}

@@ -1,7 +1,6 @@
-use Rattle.std.proofs.Common.{◌≡◌, ℕ, ◌==◌, ◌||◌, inl, inr, Bool, true, false, Option, Some, None, List, [], ◌∷◌, refl, sym, ap, ◌∙◌, subst}
-use Rattle.std.proofs.lemmas.Bool.{both_ways, cases_Bool, eqb-true, ne_eqb}
+use Rattle.std.proofs.Common.{◌≡◌, ℕ, inl, inr, Bool, true, false, Option, Some, None, List, [], ◌∷◌, refl, sym, ap, ◌∙◌, subst}
+use Rattle.std.proofs.lemmas.Bool.{cases_Bool, eqb-true, ne_eqb}
 use Rattle.std.specs.List.{AllByRecursion}
-use Rattle.dds_base.specs.BrickList.{has}
 use Rattle.dds_base.specs.Name.{Name}
 use Rattle.dds_base.specs.NodeSet.{has_node}
 use Rattle.dds_base.specs.declared.pair.Pair.{Pair}
@@ -10,9 +9,8 @@ use Rattle.dds_letters.specs.declared.letter.Letter.{Letter}
 use Rattle.dds_letters.specs.declared.letter.Letter.TheVariants as letter
 use Rattle.dds_net.specs.Net.{Net, Node, Sizes, a_brick, a_library, nowhere}
 use Rattle.dds_order_rows.specs.OwnOrder as order
-use Rattle.dds_orders.proofs.Deeds.{seat}
-use Rattle.dds_orders.proofs.Numbered.{AreCounted, BrickOk, Counts, LetterOk, NodeOk}
-use Rattle.dds_orders.proofs.Numbers.{Counted, the-order}
+use Rattle.dds_orders.proofs.Numbered.{AreCounted, BrickOk, Counts, LetterOk}
+use Rattle.dds_orders.proofs.Numbers.{the-order}
 use Rattle.dds_share.proofs.Bounds.{known-empty, no-part}
 use Rattle.dds_share.proofs.Facts.{AreAll, inside-of}
 use Rattle.dds_share.proofs.Heard.{part-copies}

@@ -29,7 +29,7 @@ use Rattle.dds_share.proofs.Joins.{same-order}
 use Rattle.dds_share.proofs.Keeps.{Turns, from-before, served-before}
 use Rattle.dds_share.proofs.Opens.{order-opens, order-still}
 use Rattle.dds_share.proofs.Sources.{Copies}
-use Rattle.dds_share.proofs.Together.{AreTogether, Bound, Serves}
+use Rattle.dds_share.proofs.Together.{AreTogether, Bound}
 use Rattle.dds_share.proofs.TurnFacts.{takes-turns, told-turns}
 use Rattle.dds_share.proofs.Turned.{at-is, others-same, put-other, put-same}
 use Rattle.dds_states.specs.Turn.{BrickTurn}

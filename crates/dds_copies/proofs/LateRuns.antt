@@ -1,4 +1,4 @@
-use Rattle.std.proofs.Common.{◌≡◌, ℕ, zero, suc, ◌+◌, ◌≤◌, ◌++◌, inl, inr, true, false, Some, None, List, [], ◌∷◌, drop, length, is_some, refl}
+use Rattle.std.proofs.Common.{◌≡◌, ℕ, zero, suc, ◌+◌, ◌++◌, inl, inr, true, false, Some, None, List, [], ◌∷◌, drop, length, is_some, refl}
 use Rattle.std.proofs.Common.{sym, ap, ◌∙◌, subst, arith}
 use Rattle.std.proofs.lemmas.Bool.{both_ways, cases_Bool, eq-eqb}
 use Rattle.std.proofs.lemmas.List.{append-nil, append_assoc, drop_all, take-append-drop}
@@ -10,13 +10,11 @@ use Rattle.dds_cluster.specs.Trace.{is_run, run_of}
 use Rattle.dds_cluster.specs.declared.step.Step.{Step}
 use Rattle.dds_cluster.specs.declared.trace.Made.{Made}
 use Rattle.dds_history.specs.Map.{Map}
-use Rattle.dds_letters.specs.declared.letter.Letter.{Letter}
 use Rattle.dds_letters.specs.declared.letter.Letter.TheVariants as letter
 use Rattle.dds_net.proofs.Journals.{Grown, net_of, next-event, place-of}
 use Rattle.dds_net.proofs.Nodes.{brick-node}
 use Rattle.dds_net.proofs.Runs.{sized-run}
 use Rattle.dds_net.proofs.Ways.{travels}
-use Rattle.dds_net.specs.Event.{moved}
 use Rattle.dds_net.specs.Net.{Net, a_brick, sizes_of}
 use Rattle.dds_orders.proofs.Numbered.{BrickOk, Counts, NodeOk}
 use Rattle.dds_orders.proofs.Deeds.{seat}
@@ -25,17 +23,17 @@ use Rattle.dds_script.specs.Opening.{IsOpening, OpeningOf}
 use Rattle.dds_share.proofs.Facts.{AreAll}
 use Rattle.dds_share.proofs.Parts.{none-has}
 use Rattle.dds_share.proofs.Sources.{bound-freezes}
-use Rattle.dds_share.proofs.Together.{AreTogether, Bound, Freezes, IsBound, has_part, installs, is_part, lives}
+use Rattle.dds_share.proofs.Together.{AreTogether, Freezes, IsBound, has_part, installs, is_part, lives}
 use Rattle.dds_share.proofs.Turned.{same-brick}
 use Rattle.dds_states.specs.declared.brick_state.BrickState.{BrickState}
 use Rattle.dds_states.specs.declared.brick_state.OpenOrder.{OpenOrder}
 use Rattle.dds_values.proofs.Histories.{history-leaves}
 use Rattle.dds_values.specs.Held.{TalkAlong}
-use Rattle.dds_values.specs.Values.{bound_in, table}
-use Rattle.dds_world.specs.Places.{Travels, reached, world_at}
-use Rattle.dds_world.specs.Values.{AreCopied, Copies, CopiesFrom, HasSentPart, JoinIsFrozen, pairs_of_order}
+use Rattle.dds_values.specs.Values.{bound_in}
+use Rattle.dds_world.specs.Places.{reached, world_at}
+use Rattle.dds_world.specs.Values.{AreCopied, Copies, CopiesFrom, HasSentPart, pairs_of_order}
 use Rattle.dds_copies.proofs.Frozen.{freezes-leased}
-use Rattle.dds_copies.proofs.Late.{IsThis, Late, ask, this-freezes}
+use Rattle.dds_copies.proofs.Late.{Late, ask, this-freezes}
 use Rattle.dds_copies.proofs.LateBegins.{late-begins, open-counts, order_name}
 use Rattle.dds_copies.proofs.LateEvents.{counts-kept, late-event}
 use Rattle.dds_copies.proofs.Outside.{all-outside}

@@ -1,8 +1,9 @@
+use Rattle.dds_copies.proofs.LateRuns.{joins-copy-frozen}
 use Rattle.dds_copies.proofs.Runs.{joins-copy, joins-frozen, values-held}
 use Rattle.dds_copies.proofs.Servers.{servers-hold}
 use Rattle.dds_order_runs.proofs.Runs.{orders-always-talk}
 use Rattle.dds_replies.proofs.Standing.{stand-where-orders-talk}
-use Rattle.dds_law_values.specs.Law.{AllRunsStand, BoundJoinsStayFrozen, JoinsAlwaysCopy, ServersAlwaysHold, ValuesAreKept}
+use Rattle.dds_law_values.specs.Law.{AllRunsStand, BoundJoinsStayFrozen, JoinsAlwaysCopy, JoinsAreAlwaysFrozen, ServersAlwaysHold, ValuesAreKept}
 
 -- Orders and their members talk by the table in every run, so what follows of that is so of every run.
 
@@ -17,6 +18,9 @@ always-copy o journal h run = joins-copy o journal h run (orders-always-talk o j
 
 pub stay-frozen : BoundJoinsStayFrozen
 stay-frozen o journal h run = joins-frozen o journal h run (orders-always-talk o journal h run)
+
+pub always-frozen : JoinsAreAlwaysFrozen
+always-frozen o journal h run = joins-copy-frozen o journal h run (orders-always-talk o journal h run)
 
 pub runs-stand : AllRunsStand
 runs-stand o journal h run = stand-where-orders-talk o journal h run (orders-always-talk o journal h run)

@@ -7,7 +7,7 @@ use Rattle.dds_copies.specs.Runs.{JoinsHaveCopied}
 use Rattle.dds_script.specs.Opening.{IsOpening, OpeningOf}
 use Rattle.dds_values.specs.Held.{ValuesHeld}
 use Rattle.dds_world.specs.Stands.{Stands}
-use Rattle.dds_world.specs.Values.{ServersHoldTheHistory}
+use Rattle.dds_world.specs.Values.{JoinIsFrozen, ServersHoldTheHistory}
 
 -- the history is one of one map, and live bricks hold what the points left
 abbrev pub ValuesAreKept : Type 0
@@ -23,6 +23,10 @@ JoinsAlwaysCopy = (o : OpeningOf) (journal : List Step) → IsOpening o → is_r
 
 abbrev pub BoundJoinsStayFrozen : Type 0
 BoundJoinsStayFrozen = (o : OpeningOf) (journal : List Step) → IsOpening o → is_run o journal ≡ true → JoinsAreFrozen o journal
+
+-- also while its source has stopped, if a part of what it copies was ever on its way: one of the nine facts of reached worlds
+abbrev pub JoinsAreAlwaysFrozen : Type 0
+JoinsAreAlwaysFrozen = (o : OpeningOf) (journal : List Step) → IsOpening o → is_run o journal ≡ true → JoinIsFrozen o journal
 
 -- all calls that were answered with a result stand in one legal history of one map, each once, between its Input and its answer; refused calls
 -- don't stand there; an unanswered update stands there once or never; and nothing else does

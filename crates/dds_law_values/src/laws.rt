@@ -1,6 +1,6 @@
 //! The laws, as contracts of functions that do nothing.
 
-ghost use Rattle.dds_law_values.specs.Law.{AllRunsStand, BoundJoinsStayFrozen, JoinsAlwaysCopy, ServersAlwaysHold, ValuesAreKept};
+ghost use Rattle.dds_law_values.specs.Law.{AllRunsStand, BoundJoinsStayFrozen, JoinsAlwaysCopy, JoinsAreAlwaysFrozen, ServersAlwaysHold, ValuesAreKept};
 
 /// In each run of each opening, with stops, splits and joins: the points, reads that no answer used among them, are a legal history of one
 /// map, and so is the history; and each live brick has for each key of its leaves what the points left, or, where a transaction is pending
@@ -27,6 +27,13 @@ pub fn joins_always_copy()
 /// the points left under its name.
 pub fn bound_joins_stay_frozen()
     ensures { BoundJoinsStayFrozen }
+{}
+
+/// In each run: while a join installs, or copies from a brick that lives or from which a part of what it copies was ever on its way, be that part
+/// lost with its sender or not, each brick that serves a key under its name has given it the lease, and has no key there pending; what it copied
+/// is the history's; and no step changes the history's pairs there.
+pub fn joins_are_frozen()
+    ensures { JoinsAreAlwaysFrozen }
 {}
 
 /// The calls of every run of every opening, with stops, splits and joins, stand in one legal history of one map: a call that was answered with
