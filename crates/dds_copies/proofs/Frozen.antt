@@ -1,4 +1,4 @@
-use Rattle.std.proofs.Common.{◌≡◌, ℕ, ◌+◌, ◌≤◌, true, false, is_some, refl, sym, ap, ◌∙◌, subst, arith}
+use Rattle.std.proofs.Common.{◌≡◌, ℕ, ◌+◌, ◌≤◌, true, false, is_some, sym, ap, ◌∙◌, subst, arith}
 use Rattle.std.proofs.lemmas.Bool.{both_ways, ne_eqb}
 use Rattle.dds_base.specs.BrickList.{has}
 use Rattle.dds_base.specs.Name.{covers}
@@ -15,27 +15,20 @@ use Rattle.dds_pairs.proofs.LieKeeps.{AreLying}
 use Rattle.dds_parents.proofs.Served.{covered-by}
 use Rattle.dds_share.proofs.Facts.{AreAll, unknown-of}
 use Rattle.dds_share.proofs.Over.{covers-over, in-covers}
-use Rattle.dds_share.proofs.Sources.{not-leasing, some-leaf}
-use Rattle.dds_share.proofs.Together.{AreTogether, Bound, Serves}
+use Rattle.dds_share.proofs.Sources.{bound-freezes, some-leaf}
+use Rattle.dds_share.proofs.Together.{AreTogether, Freezes, Serves}
 use Rattle.dds_share.proofs.Turned.{same-brick}
 use Rattle.dds_states.specs.Leaf.{leaf_for}
 use Rattle.dds_states.specs.declared.brick_state.BrickState.{BrickState}
 use Rattle.dds_states.specs.declared.brick_state.OpenOrder.{OpenOrder}
-use Rattle.dds_states.specs.declared.brick_state.OrderPhase.{OrderPhase}
-use Rattle.dds_states.specs.declared.brick_state.OrderPhase.TheVariants.{Copying, Installing, Leasing}
 use Rattle.dds_copies.proofs.Leased.{free-under}
 use Rattle.dds_copies.specs.Frozen.{ServersHaveLeased}
 
--- A live brick with a leaf over a key of a bound join's name isn't the join's own, whose leaves are apart from it; so it has granted the join its
+-- A live brick with a leaf over a key of the name of a join that all such bricks granted isn't the join's own, whose leaves are apart from it; so it has granted the join its
 -- lease, and holds it, and nothing is pending under a lease.
 
-no-leasing : (p : OrderPhase) → (p ≡ Leasing → ⊥) → order.is_leasing p ≡ false
-no-leasing Leasing h = absurd (h refl)
-no-leasing (Copying source) h = refl
-no-leasing (Installing made) h = refl
-
 module _ (z : Sizes) (n : Net) (all : AreAll z n) (together : AreTogether n) (lying : AreLying z n) (k b : ℕ) (s t : BrickState) (o : OpenOrder) (key : ℕ)
-    (bound : Bound n k s o) (here : n.node b ≡ a_brick t) (live : t.stopped ≡ false) (covered : is_some (leaf_for t.leaves key) ≡ true)
+    (bound : Freezes n k s o) (here : n.node b ≡ a_brick t) (live : t.stopped ≡ false) (covered : is_some (leaf_for t.leaves key) ≡ true)
     (under : covers o.name key ≡ true) where
   its-own : IsBoth b (own t)
   its-own = subst (own_law.NodeOk b) here (lying.stood.own b)
@@ -54,18 +47,23 @@ module _ (z : Sizes) (n : Net) (all : AreAll z n) (together : AreTogether n) (ly
       let second : o.name.depth ≤ deep = omega arith in
       let serves : Serves n b (record { bits = key; depth = deep }) t leaf.0 =
       record { here = here; live = live; over = covers-over t.leaves key deep leaf.0 mine first } in
-      together.granted k b (record { bits = key; depth = deep }) s t o leaf.0 bound another serves (in-covers o.name key deep second under)
+      bound.granted b (record { bits = key; depth = deep }) t leaf.0 another serves (in-covers o.name key deep second under)
 
   has-given : is_given t.locks.leases o.name k ≡ true
   has-given =
-      let not_leasing = (λ (e : o.phase ≡ Leasing). not-leasing n k o o.phase bound.bound e) in
-      let leaf = some-leaf o.leaf (together.fixed k s o bound.here bound.live bound.there bound.join (no-leasing o.phase not_leasing)) in
+      let leaf = some-leaf o.leaf (together.fixed k s o bound.here bound.live bound.there bound.join bound.phase) in
       (granted-holds k b s t o leaf.0 (n.channel k b) (n.channel b k) bound.live live (unknown-of z n all k b s t bound.here here live) bound.there leaf.1
-      has-granted (λ e. absurd (not_leasing e)) (all.talk k b o.name s t bound.here here (ne_eqb k b (λ e. another (sym e))))).0
+      has-granted (λ e. absurd (both_ways (order.is_leasing o.phase) bound.phase (ap order.is_leasing e))) (all.talk k b o.name s t bound.here here (ne_eqb k b (λ e. another (sym e))))).0
 
   pub has-leased : (is_given t.locks.leases o.name k ≡ true) × (any_under t.locks.pending o.name ≡ false)
   has-leased = (has-given, free-under b t o.name k its-own has-given)
 
+pub freezes-leased : (z : Sizes) (n : Net) → AreAll z n → AreTogether n → AreLying z n → (k b : ℕ) (s t : BrickState) (o : OpenOrder) (key : ℕ)
+    → Freezes n k s o → n.node b ≡ a_brick t → t.stopped ≡ false → is_some (leaf_for t.leaves key) ≡ true → covers o.name key ≡ true
+    → (is_given t.locks.leases o.name k ≡ true) × (any_under t.locks.pending o.name ≡ false)
+freezes-leased z n all together lying k b s t o key h here live covered under =
+    has-leased z n all together lying k b s t o key h here live covered under
+
 pub servers-leased : (z : Sizes) (n : Net) → AreAll z n → AreTogether n → AreLying z n → ServersHaveLeased n
 servers-leased z n all together lying k b s t o key bound here live covered under =
-    has-leased z n all together lying k b s t o key bound here live covered under
+    has-leased z n all together lying k b s t o key (bound-freezes n k s o together.granted bound) here live covered under

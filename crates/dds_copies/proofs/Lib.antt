@@ -23,7 +23,11 @@ pub mod Frozen
 pub mod PointsOutside
 pub mod Served
 pub mod LeavesKeep
+pub mod Late
+pub mod LateEvents
+pub mod LateBegins
 pub mod Runs
+pub mod LateRuns
 pub mod Servers
 pub mod Steps
 pub mod Ends

@@ -2,6 +2,7 @@ use Rattle.std.proofs.Common.{◌≡◌, ℕ, ◌++◌, true, Some, None, List, 
 use Rattle.std.proofs.Math.Seq.{take-append_seam}
 use Rattle.std.proofs.lemmas.Bool.{and_parts}
 use Rattle.std.proofs.lemmas.List.{append-nil, append_assoc, take-append-drop}
+use Rattle.std.specs.List.{AllByRecursion}
 use Rattle.std.specs.Prelude.{take}
 use Rattle.dds_cluster.specs.Trace.{all_kept, is_possible, is_run, is_run_from, next, run_of, start, trace_from}
 use Rattle.dds_cluster.specs.World.{brick_at}
@@ -35,10 +36,10 @@ use Rattle.dds_copies.proofs.Keeps.{joins-kept}
 use Rattle.dds_copies.proofs.LeavesKeep.{leaves-kept}
 use Rattle.dds_copies.proofs.Frozen.{servers-leased}
 use Rattle.dds_copies.proofs.Outside.{all-outside, points-keep}
-use Rattle.dds_copies.proofs.PointsOutside.{come-outside}
+use Rattle.dds_copies.proofs.PointsOutside.{IsFrozen, come-outside, frozen-outside}
 use Rattle.dds_copies.specs.Copies.{JoinsCopy}
 use Rattle.dds_copies.specs.Frozen.{BoundJoinsAreFrozen}
-use Rattle.dds_copies.specs.Outside.{ComeOutside}
+use Rattle.dds_copies.specs.Outside.{ComeOutside, IsOutside}
 use Rattle.dds_copies.specs.Runs.{JoinsCopyTheTable, ValuesAreHeld}
 
 -- Along each run: as far as bricks that serve what their joins made hold the table, live bricks do, so what sources send is the table's; so
@@ -73,13 +74,13 @@ trace-grown t [] x = refl
 trace-grown t (y ∷ journal) x = trace-grown (next t y) journal x
 
 -- after a beginning of the journal
-record Along (o : OpeningOf) (was : List Step) : Type 0 where
-  low : AreLow (sizes_of o) (net_of o was)
-  serves : JoinsServeTheTable o was
-  copy : JoinsCopy (table (run_of o was).made) (net_of o was)
+pub record Along (o : OpeningOf) (was : List Step) : Type 0 where
+  pub low : AreLow (sizes_of o) (net_of o was)
+  pub serves : JoinsServeTheTable o was
+  pub copy : JoinsCopy (table (run_of o was).made) (net_of o was)
 
 module _ (o : OpeningOf) (journal : List Step) (h : IsOpening o) (run : is_run o journal ≡ true) (talk : TalkAlong o journal) where
-  front-run : (front rest : List Step) → front ++ rest ≡ journal → is_run o front ≡ true
+  pub front-run : (front rest : List Step) → front ++ rest ≡ journal → is_run o front ≡ true
   front-run front rest whole =
       subst (λ j. is_run o j ≡ true) (ap (take (length front)) (sym whole) ∙ take-append_seam front rest) (run-take (start o) journal (length front) run)
 
@@ -90,7 +91,7 @@ module _ (o : OpeningOf) (journal : List Step) (h : IsOpening o) (run : is_run o
   front-of : (front more was rest : List Step) → front ++ more ≡ was → was ++ rest ≡ journal → front ++ (more ++ rest) ≡ journal
   front-of front more was rest is whole = sym (append_assoc front more rest) ∙ ap (λ j. j ++ rest) is ∙ whole
 
-  along-talks : (was rest : List Step) → was ++ rest ≡ journal → TalkAlong o was
+  pub along-talks : (was rest : List Step) → was ++ rest ≡ journal → TalkAlong o was
   along-talks was rest whole at =
       front-talks (take at was) (drop at was ++ rest) (front-of (take at was) (drop at was) was rest (take-append-drop at was) whole)
 
@@ -123,14 +124,16 @@ module _ (o : OpeningOf) (journal : List Step) (h : IsOpening o) (run : is_run o
       by (earlier left same) = a.serves front left y e same following
 
   -- the points of the next step, and the nodes and channels behind it
-  record Next (was : List Step) (x : Step) : Type 0 where
-    more : List Made
-    made : (run_of o (Grown was x)).made ≡ (run_of o was).made ++ more
-    low : AreLow (sizes_of o) (net_of o (Grown was x))
-    outside : ComeOutside (net_of o (Grown was x)) more
-    copy : JoinsCopy (table (run_of o was).made) (net_of o (Grown was x))
+  pub record Next (was : List Step) (x : Step) : Type 0 where
+    pub more : List Made
+    pub made : (run_of o (Grown was x)).made ≡ (run_of o was).made ++ more
+    pub low : AreLow (sizes_of o) (net_of o (Grown was x))
+    pub outside : ComeOutside (net_of o (Grown was x)) more
+    pub frozen :
+        (k : ℕ) (s : BrickState) (q : OpenOrder) → IsFrozen (net_of o was) (net_of o (Grown was x)) k s q → AllByRecursion (IsOutside q.name) more
+    pub copy : JoinsCopy (table (run_of o was).made) (net_of o (Grown was x))
 
-  next-is-so : (was rest : List Step) (x : Step) → was ++ x ∷ rest ≡ journal → is_possible (run_of o was) x ≡ true → Along o was → Next was x
+  pub next-is-so : (was rest : List Step) (x : Step) → was ++ x ∷ rest ≡ journal → is_possible (run_of o was) x ≡ true → Along o was → Next was x
   next-is-so was rest x whole p a =
       let z = sizes_of o in
       let t = run_of o was in
@@ -146,6 +149,8 @@ module _ (o : OpeningOf) (journal : List Step) (h : IsOpening o) (run : is_run o
         made = ap (λ (i : History). i.made) past;
         low = subst (AreLow z) (sym after) (low-kept z h.ranges.bricks h.ranges.libraries (history_of t) n m.event tt g.all.built m.fits a.low);
         outside = subst (λ v. ComeOutside v more) (sym after) (come-outside z t.callers t.made n g m.event m.fits t.steps);
+        frozen = λ k s q b.
+            frozen-outside z t.callers t.made n g m.event m.fits t.steps k s q (subst (λ v. IsFrozen n v k s q) after b);
         copy = subst (JoinsCopy (table t.made)) (sym after) (joins-kept z t.callers t.made n g m.event m.fits);
       }
 
@@ -171,7 +176,7 @@ possible-in : (t : Trace) (was : List Step) (x : Step) → is_run_from t (Grown 
 possible-in t [] x r = (and_parts (is_possible t x) true r).0
 possible-in t (y ∷ was) x r = possible-in (next t y) was x (and_parts (is_possible t y) (is_run_from (next t y) (Grown was x)) r).1
 
-next-possible : (o : OpeningOf) (was : List Step) (x : Step) → is_run o (Grown was x) ≡ true → is_possible (run_of o was) x ≡ true
+pub next-possible : (o : OpeningOf) (was : List Step) (x : Step) → is_run o (Grown was x) ≡ true → is_possible (run_of o was) x ≡ true
 next-possible o was x r = possible-in (start o) was x r
 
 -- the opening has no open order
@@ -196,20 +201,20 @@ start-along o h =
     none : (q : OpenOrder) → None ≡ Some q → ⊥
     none q e = cc
 
-run-along : (o : OpeningOf) (journal : List Step) → IsOpening o → is_run o journal ≡ true → TalkAlong o journal → Along o journal
+pub run-along : (o : OpeningOf) (journal : List Step) → IsOpening o → is_run o journal ≡ true → TalkAlong o journal → Along o journal
 run-along o journal h run talk = all-along o journal h run talk [] journal refl run (start-along o h)
 
 pub values-held : ValuesAreHeld
 values-held o journal h run talk = held-where-given o journal h run talk (run-along o journal h run talk).serves
 
 -- a world that is reached
-record Reached (o : OpeningOf) (journal : List Step) : Type 0 where
-  along : Along o journal
-  all : AreAll (sizes_of o) (net_of o journal)
-  together : AreTogether (net_of o journal)
-  lying : AreLying (sizes_of o) (net_of o journal)
+pub record Reached (o : OpeningOf) (journal : List Step) : Type 0 where
+  pub along : Along o journal
+  pub all : AreAll (sizes_of o) (net_of o journal)
+  pub together : AreTogether (net_of o journal)
+  pub lying : AreLying (sizes_of o) (net_of o journal)
 
-run-reached : (o : OpeningOf) (journal : List Step) → IsOpening o → is_run o journal ≡ true → TalkAlong o journal → Reached o journal
+pub run-reached : (o : OpeningOf) (journal : List Step) → IsOpening o → is_run o journal ≡ true → TalkAlong o journal → Reached o journal
 run-reached o journal h run talk =
     let a = run-along o journal h run talk in
     record {

@@ -14,6 +14,7 @@ use Rattle.dds_states.specs.declared.brick_state.BrickState.{BrickState}
 use Rattle.dds_states.specs.declared.brick_state.OpenOrder.{OpenOrder}
 use Rattle.dds_values.specs.Held.{TalkAlong}
 use Rattle.dds_values.specs.Values.{bound_in}
+use Rattle.dds_world.specs.Values.{JoinIsFrozen}
 
 -- each live brick that serves a key under the name of a bound join has given it the lease, and has no key there pending
 abbrev pub ServersHaveLeased : Net → Type 0
@@ -34,3 +35,7 @@ pub record JoinsAreFrozen (o : OpeningOf) (journal : List Step) : Type 0 where
 abbrev pub BoundJoinsAreFrozen : Type 0
 BoundJoinsAreFrozen =
     (o : OpeningOf) (journal : List Step) → IsOpening o → is_run o journal ≡ true → TalkAlong o journal → JoinsAreFrozen o journal
+
+-- and so is each join that installs, or copies from a source that lives or sent a part of what it copies, if it stopped with that part since
+abbrev pub JoinsCopyFrozen : Type 0
+JoinsCopyFrozen = (o : OpeningOf) (journal : List Step) → IsOpening o → is_run o journal ≡ true → TalkAlong o journal → JoinIsFrozen o journal

@@ -1,7 +1,7 @@
 //! The laws, as contracts of functions that do nothing.
 
 ghost use Rattle.dds_copies.specs.Ends.{JoinsEndWithTheTable};
-ghost use Rattle.dds_copies.specs.Frozen.{BoundJoinsAreFrozen};
+ghost use Rattle.dds_copies.specs.Frozen.{BoundJoinsAreFrozen, JoinsCopyFrozen};
 ghost use Rattle.dds_copies.specs.Law.{CopyingKeepsTheTable};
 ghost use Rattle.dds_copies.specs.Outside.{JoinsCopyOn};
 ghost use Rattle.dds_copies.specs.Runs.{JoinsCopyTheTable, ServersHold, ValuesAreHeld};
@@ -69,4 +69,11 @@ pub fn servers_hold_the_history()
 /// points left under its name.
 pub fn bound_joins_are_frozen()
     ensures { BoundJoinsAreFrozen }
+{}
+
+/// Of each such run: while a join installs, or copies from a brick that lives or from which a part of what it copies was ever on its way, each
+/// brick that serves a key under its name has given it the lease, and has no key there pending; what it copied is the history's; and no step
+/// changes the history's pairs there.
+pub fn joins_copy_frozen()
+    ensures { JoinsCopyFrozen }
 {}

@@ -3,12 +3,14 @@ use Rattle.dds_attempts.proofs.Runs.{last-attempts-stand}
 use Rattle.dds_calls.proofs.Answering.{none-is-of-stops}
 use Rattle.dds_cluster.specs.Trace.{is_run, start}
 use Rattle.dds_cluster.specs.declared.step.Step.{Step}
+use Rattle.dds_copies.proofs.LateRuns.{joins-copy-frozen}
 use Rattle.dds_law_commit.proofs.Causes.{all-are-caused}
 use Rattle.dds_law_leaf.proofs.Ever.{leaves-are-one}
 use Rattle.dds_law_notice.proofs.Last.{notices-are-last}
 use Rattle.dds_law_refusal.proofs.Facts.{refusals-true}
 use Rattle.dds_net.proofs.Prefixes.{run-take}
 use Rattle.dds_order_runs.proofs.Group.{groups-are-shared}
+use Rattle.dds_order_runs.proofs.Runs.{orders-always-talk}
 use Rattle.dds_outcomes.proofs.Runs.{outcomes-are-one}
 use Rattle.dds_script.specs.Opening.{IsOpening, OpeningOf}
 use Rattle.dds_law_config.proofs.Standing.{runs-stand}
@@ -31,6 +33,7 @@ facts-at o journal h run at =
       outcomes = outcomes.1;
       attempts = last-attempts-stand o then h run_then;
       values = always-hold o then h run_then;
+      joins = joins-copy-frozen o then h run_then (orders-always-talk o then h run_then);
     }
 
 pub all-stand : AllRunsStand

@@ -25,9 +25,9 @@ use Rattle.dds_world.specs.Places.{IsLive, world_at}
 use Rattle.dds_world.specs.Refusals.{RefusalsWereTrue}
 use Rattle.dds_world.specs.Stands.{Stands, answer_to}
 use Rattle.dds_world.specs.Treated.{open_as}
-use Rattle.dds_world.specs.Values.{ServersHoldTheHistory}
+use Rattle.dds_world.specs.Values.{JoinIsFrozen, ServersHoldTheHistory}
 
--- the facts of reached worlds, in the world that a run reaches
+-- the nine facts of reached worlds, in the world that a run reaches
 pub record FactsHold (o : OpeningOf) (journal : List Step) : Type 0 where
   pub notices : NoticeIsLast o journal
   pub refusals : RefusalsWereTrue o journal
@@ -37,6 +37,7 @@ pub record FactsHold (o : OpeningOf) (journal : List Step) : Type 0 where
   pub outcomes : OneOutcome o journal
   pub attempts : OnlyTheLastAttempt o journal
   pub values : ServersHoldTheHistory o journal
+  pub joins : JoinIsFrozen o journal
 
 -- a run's calls stand in one legal history, each answer has its cause, and the facts hold after each beginning of the run
 pub record RunStands (o : OpeningOf) (journal : List Step) : Type 0 where

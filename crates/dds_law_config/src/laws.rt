@@ -4,7 +4,7 @@ ghost use Rattle.dds_law_config.specs.Law.{AllRunsStand, FixedRunsStand, KeptMem
 ghost use Rattle.dds_law_config.specs.Values.{BoundJoinsStayFrozen, JoinsAlwaysCopy, ValuesAreKept};
 
 /// Of every run of every opening, whatever its interleaving of calls, stops, splits and joins: its calls stand in one legal history of one map;
-/// each answer other than a result has its cause; and the facts of reached worlds hold after each beginning of it.
+/// each answer other than a result has its cause; and the nine facts of reached worlds hold after each beginning of it.
 pub fn run_stands()
     ensures { AllRunsStand }
 {}

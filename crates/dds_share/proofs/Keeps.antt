@@ -11,13 +11,12 @@ use Rattle.dds_orders.proofs.Leased.{In}
 use Rattle.dds_parents.proofs.Keeps.{Gone}
 use Rattle.dds_states.specs.declared.brick_state.BrickState.{BrickState}
 use Rattle.dds_states.specs.declared.brick_state.OpenOrder.{OpenOrder}
-use Rattle.dds_states.specs.declared.brick_state.OrderPhase.{OrderPhase}
 use Rattle.dds_share.proofs.Bounds.{IsFrom, Was, from_live, was}
 use Rattle.dds_share.proofs.Ends.{JoinEnds}
 use Rattle.dds_share.proofs.Facts.{AreAll, lists-itself}
 use Rattle.dds_share.proofs.Over.{IsOver}
-use Rattle.dds_share.proofs.Sources.{source-apart, source-granted}
-use Rattle.dds_share.proofs.Together.{Apart, AreTogether, Bound, Fixed, Granted, IsBound, Serves, Share, comes, copied, installs, lives}
+use Rattle.dds_share.proofs.Sources.{bound-freezes, bound-phase, source-apart, source-granted}
+use Rattle.dds_share.proofs.Together.{Apart, AreTogether, Bound, Fixed, Granted, Serves, Share}
 use Rattle.dds_share.proofs.Turned.{Came, at-is, others-same, put-same, share-turned}
 
 -- The invariant after an event in which no brick's leaves and order change, and after a turn of a brick.
@@ -60,7 +59,7 @@ module _ (z : Sizes) (n m : Net) (at : ℕ) (s u : BrickState) (g : AreAll z m) 
       (λ spot new over. elim (t.comes spot new over) [ inl came ↦ inl came | inr ends ↦ inr ends.is ])
 
   -- a bound join after it
-  from-before : (j : ℕ) (v : BrickState) (o : OpenOrder) → Bound m j v o → Was n j o ⊎ ((j ≡ at) × IsFrom n m at u o)
+  pub from-before : (j : ℕ) (v : BrickState) (o : OpenOrder) → Bound m j v o → Was n j o ⊎ ((j ≡ at) × IsFrom n m at u o)
   from-before j v o k = elim (cases_eq j at) [
     | inl e ↦
         let k_at = subst (λ i. Bound m i v o) e k in
@@ -71,7 +70,7 @@ module _ (z : Sizes) (n m : Net) (at : ℕ) (s u : BrickState) (g : AreAll z m) 
   ]
 
   -- who serves a spot afterwards did before, or is the joiner
-  served-before : (b : ℕ) (spot : Name) (v : BrickState) (other : Leaf) → Serves m b spot v other
+  pub served-before : (b : ℕ) (spot : Name) (v : BrickState) (other : Leaf) → Serves m b spot v other
       → ((w : BrickState) × (old : Leaf) × Serves n b spot w old) ⊎ ((b ≡ at) × JoinEnds n at s spot other)
   served-before b spot v other k = elim (cases_eq b at) [
     | inl e ↦
@@ -116,13 +115,7 @@ module _ (z : Sizes) (n m : Net) (at : ℕ) (s u : BrickState) (g : AreAll z m) 
   ]
 
   bound-fixed : (j : ℕ) (v : BrickState) (o : OpenOrder) → Bound m j v o → is_some o.leaf ≡ true
-  bound-fixed j v o k = fixed-after j v o k.here k.live k.there k.join (phase-is o.phase k.bound)
-    where
-      phase-is : (p : OrderPhase) → IsBound m j o p → is_leasing p ≡ false
-      phase-is _ (installs made) = refl
-      phase-is _ (lives source r here live) = refl
-      phase-is _ (copied source ne) = refl
-      phase-is _ (comes source r here part) = refl
+  bound-fixed j v o k = fixed-after j v o k.here k.live k.there k.join (bound-phase m j o o.phase k.bound)
 
   was-apart : (j k : ℕ) (spot : Name) (o p : OpenOrder) → Was n j o → Was n k p → (j ≡ k → ⊥) → In o.name spot → In p.name spot → ⊥
   was-apart j k spot o p a b ne over also =
@@ -134,7 +127,7 @@ module _ (z : Sizes) (n m : Net) (at : ℕ) (s u : BrickState) (g : AreAll z m) 
       → In o.name spot → In p.name spot → ⊥
   at-apart k spot w o p (was a) b bound ne over also = was-apart at k spot o p a b ne over also
   at-apart k spot w o p (from_live source r copies) b bound ne over also =
-      source-apart z m g at u o source r copies share-after granted-after k w p bound (bound-fixed k w p bound) ne spot over also
+      source-apart z m g at u o source r copies share-after k w p (bound-freezes m k w p granted-after bound) (bound-fixed k w p bound) ne spot over also
 
   apart-after : Apart m
   apart-after j k spot v w o p a b ne over also = elim (from-before j v o a) [

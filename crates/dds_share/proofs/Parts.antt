@@ -107,7 +107,7 @@ part-brick n number source j g h = brick-is (n.node source) (part-from number (n
 abbrev NoPart : ℕ → ℕ → ℕ → ℕ → ℕ → Letter → Type 0
 NoPart number source j a b l = a ≡ source → b ≡ j → is_part number l ≡ false
 
-none-has : (number : ℕ) (ls : List Letter) → has_part number ls ≡ false → AllByRecursion (λ l. is_part number l ≡ false) ls
+pub none-has : (number : ℕ) (ls : List Letter) → has_part number ls ≡ false → AllByRecursion (λ l. is_part number l ≡ false) ls
 none-has number [] h = tt
 none-has number (l ∷ ls) h = let p = neither (is_part number l) (has_part number ls) h in (p.0, none-has number ls p.1)
   where

@@ -20,11 +20,11 @@ use Rattle.dds_states.specs.declared.brick_state.OrderPhase.{OrderPhase}
 use Rattle.dds_states.specs.declared.brick_state.OrderPhase.TheVariants.{Copying, Leasing}
 use Rattle.dds_share.proofs.Facts.{AreAll, asked-of, asking-of, both-of, gone-of, leases-apart, unknown-of}
 use Rattle.dds_share.proofs.Over.{over-both}
-use Rattle.dds_share.proofs.Together.{Bound, Granted, IsBound, Serves, Share, comes, copied, installs, lives}
+use Rattle.dds_share.proofs.Together.{Bound, Freezes, Granted, IsBound, Serves, Share, comes, copied, installs, lives}
 use Rattle.dds_share.proofs.Turned.{lives-not}
 
 -- A join that copies from a live member: this one has the order's leaf and gave its lease, so all that serve a key of the join granted it,
--- and no other bound join has a key in common with it.
+-- and no other join that was granted has a key in common with it.
 
 pub some-leaf : (q : Option Leaf) → is_some q ≡ true → (leaf : Leaf) × (q ≡ Some leaf)
 some-leaf None h = cc
@@ -38,6 +38,23 @@ not-leasing n j o p (installs made) e = cc
 not-leasing n j o p (lives source t here live) e = cc
 not-leasing n j o p (copied source ne) e = cc
 not-leasing n j o p (comes source t here part) e = cc
+
+pub bound-phase : (n : Net) (j : ℕ) (o : OpenOrder) (p : OrderPhase) → IsBound n j o p → order.is_leasing p ≡ false
+bound-phase n j o _ (installs made) = refl
+bound-phase n j o _ (lives source t here live) = refl
+bound-phase n j o _ (copied source ne) = refl
+bound-phase n j o _ (comes source t here part) = refl
+
+pub bound-freezes : (n : Net) (j : ℕ) (s : BrickState) (o : OpenOrder) → Granted n → Bound n j s o → Freezes n j s o
+bound-freezes n j s o all h =
+    record {
+      here = h.here;
+      live = h.live;
+      there = h.there;
+      join = h.join;
+      phase = bound-phase n j o o.phase h.bound;
+      granted = λ b spot t other ne serves over. all j b spot s t o other h ne serves over;
+    }
 
 -- a live brick with a join that copies from this one
 pub record Copies (n : Net) (j : ℕ) (s : BrickState) (o : OpenOrder) (source : ℕ) (t : BrickState) : Type 0 where
@@ -92,18 +109,18 @@ module _ (z : Sizes) (n : Net) (g : AreAll z n) (j : ℕ) (s : BrickState) (o : 
       member (granted e) = e
       member (gone e) = known-not e
 
-  -- another bound join
-  pub source-apart : Share n → Granted n → (k : ℕ) (r : BrickState) (p : OpenOrder) → Bound n k r p → is_some p.leaf ≡ true → (j ≡ k → ⊥) → (spot : Name)
+  -- another join that was granted
+  pub source-apart : Share n → (k : ℕ) (r : BrickState) (p : OpenOrder) → Freezes n k r p → is_some p.leaf ≡ true → (j ≡ k → ⊥) → (spot : Name)
       → In o.name spot → In p.name spot → ⊥
-  source-apart share all k r p bound fixed ne spot over also =
+  source-apart share k r p bound fixed ne spot over also =
       let leaf = some-leaf o.leaf h.fixed in
       let other = some-leaf p.leaf fixed in
       let serves = its-leaf leaf.0 leaf.1 spot over in
       let apart = (λ (e : source ≡ k). open-apart (subst (λ i. n.node i ≡ a_brick t) e h.source_here)) in
-      let gave = all k source spot r t p leaf.0 bound apart serves also in
+      let gave = bound.granted source spot t leaf.0 apart serves also in
       let it = granted-holds k source r t p other.0 (n.channel k source) (n.channel source k) bound.live h.source_live
       (unknown-of z n g k source r t bound.here h.source_here h.source_live) bound.there other.1 gave
-      (λ e. absurd (not-leasing n k p p.phase bound.bound e))
+      (λ e. absurd (both_ways (order.is_leasing p.phase) bound.phase (ap order.is_leasing e)))
       (g.talk k source p.name r t bound.here h.source_here (ne_eqb k source (λ e. apart (sym e)))) in
       let no = leases-apart t.locks.leases o.name p.name j k (both-of z n g source t h.source_here).0.apart ne (source-holds leaf.0 leaf.1).0 it.0 in
       both_ways (overlaps o.name p.name) no (over-both o.name p.name spot over also)

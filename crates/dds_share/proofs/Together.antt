@@ -59,6 +59,15 @@ pub record Bound (n : Net) (j : ℕ) (s : BrickState) (o : OpenOrder) : Type 0 w
   pub join : is_join o.task ≡ true
   pub bound : IsBound n j o o.phase
 
+-- a live brick with a join that doesn't lease any more, and that each other live brick with a leaf over a spot of its name granted
+pub record Freezes (n : Net) (j : ℕ) (s : BrickState) (o : OpenOrder) : Type 0 where
+  pub here : n.node j ≡ a_brick s
+  pub live : s.stopped ≡ false
+  pub there : s.order ≡ Some o
+  pub join : is_join o.task ≡ true
+  pub phase : is_leasing o.phase ≡ false
+  pub granted : (b : ℕ) (spot : Name) (t : BrickState) (other : Leaf) → (b ≡ j → ⊥) → Serves n b spot t other → In o.name spot → has o.granted b ≡ true
+
 abbrev pub Share : Net → Type 0
 Share n = (a b : ℕ) (spot : Name) (s t : BrickState) (leaf other : Leaf) → Serves n a spot s leaf → Serves n b spot t other → has leaf.list b ≡ true
 
