@@ -30,8 +30,8 @@ other-call a b m n before h e = elim (a == b) as (λ c. (a == b) ≡ c → (c &&
   | false ↦ λ same. refl
 ] refl
 
-pub not-asked : (before : List SeenLine) (caller : ℕ) (call : CallNo) (asked : List Asked) → call.0 ≡ lines_of caller before → AllByRecursion (IsOld before) asked
-    → is_asked asked caller call ≡ false
+pub not-asked : (before : List SeenLine) (caller : ℕ) (call : CallNo) (asked : List Asked) → call.0 ≡ lines_of caller before
+    → AllByRecursion (IsOld before) asked → is_asked asked caller call ≡ false
 not-asked before caller call [] e h = refl
 not-asked before caller call (a ∷ asked) e h =
     ap (λ b. b || is_asked asked caller call) (other-call a.caller caller a.call.0 call.0 before h.0 e) ∙ not-asked before caller call asked e h.1

@@ -24,8 +24,8 @@ use Rattle.dds_states.specs.declared.brick_state.OpenOrder.{OpenOrder}
 use Rattle.dds_copies.proofs.Leased.{free-under}
 use Rattle.dds_copies.specs.Frozen.{ServersHaveLeased}
 
--- A live brick with a leaf over a key of the name of a join that all such bricks granted isn't the join's own, whose leaves are apart from it; so it has granted the join its
--- lease, and holds it, and nothing is pending under a lease.
+-- A live brick with a leaf over a key of the name of a join that each such brick granted isn't the join's own, whose leaves are apart from it;
+-- so it has granted the join its lease, and holds it, and nothing is pending under a lease.
 
 module _ (z : Sizes) (n : Net) (all : AreAll z n) (together : AreTogether n) (lying : AreLying z n) (k b : ℕ) (s t : BrickState) (o : OpenOrder) (key : ℕ)
     (bound : Freezes n k s o) (here : n.node b ≡ a_brick t) (live : t.stopped ≡ false) (covered : is_some (leaf_for t.leaves key) ≡ true)
@@ -53,7 +53,8 @@ module _ (z : Sizes) (n : Net) (all : AreAll z n) (together : AreTogether n) (ly
   has-given =
       let leaf = some-leaf o.leaf (together.fixed k s o bound.here bound.live bound.there bound.join bound.phase) in
       (granted-holds k b s t o leaf.0 (n.channel k b) (n.channel b k) bound.live live (unknown-of z n all k b s t bound.here here live) bound.there leaf.1
-      has-granted (λ e. absurd (both_ways (order.is_leasing o.phase) bound.phase (ap order.is_leasing e))) (all.talk k b o.name s t bound.here here (ne_eqb k b (λ e. another (sym e))))).0
+      has-granted (λ e. absurd (both_ways (order.is_leasing o.phase) bound.phase (ap order.is_leasing e)))
+      (all.talk k b o.name s t bound.here here (ne_eqb k b (λ e. another (sym e))))).0
 
   pub has-leased : (is_given t.locks.leases o.name k ≡ true) × (any_under t.locks.pending o.name ≡ false)
   has-leased = (has-given, free-under b t o.name k its-own has-given)

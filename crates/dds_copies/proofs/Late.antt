@@ -82,11 +82,12 @@ pub record Leaves (n m : Net) (j number : ℕ) : Type 0 where
   pub served :
       (b : ℕ) (spot : Name) (v : BrickState) (other : Leaf) → Serves m b spot v other
       → ((w : BrickState) × (old : Leaf) × Serves n b spot w old) ⊎ ((w : BrickState) × JoinEnds n b w spot other)
-  pub bounds : (k : ℕ) (t : BrickState) (p : OpenOrder) → Bound m k t p → Was n k p ⊎ ((u : BrickState) × (source : ℕ) × (r : BrickState) × Copies m k u p source r)
+  pub bounds : (k : ℕ) (t : BrickState) (p : OpenOrder) → Bound m k t p
+      → Was n k p ⊎ ((u : BrickState) × (source : ℕ) × (r : BrickState) × Copies m k u p source r)
   pub was : (s : BrickState) (o : OpenOrder) → IsThis m j number s o → WasThis n j number o
 
-module _ (z : Sizes) (n m : Net) (j number : ℕ) (name : Name) (all : AreAll z m) (together : AreTogether m) (g : Leaves n m j number) (late : Late n j number name)
-    (counts : Counts (m.node j) number (ask number name)) where
+module _ (z : Sizes) (n m : Net) (j number : ℕ) (name : Name) (all : AreAll z m) (together : AreTogether m) (g : Leaves n m j number)
+    (late : Late n j number name) (counts : Counts (m.node j) number (ask number name)) where
   granted-after : (b : ℕ) (spot : Name) (s t : BrickState) (o : OpenOrder) (other : Leaf) → IsThis m j number s o → (b ≡ j → ⊥) → Serves m b spot t other
       → In o.name spot → has o.granted b ≡ true
   granted-after b spot s t o other h ne serves over =

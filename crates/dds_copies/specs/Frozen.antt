@@ -36,6 +36,7 @@ abbrev pub BoundJoinsAreFrozen : Type 0
 BoundJoinsAreFrozen =
     (o : OpeningOf) (journal : List Step) → IsOpening o → is_run o journal ≡ true → TalkAlong o journal → JoinsAreFrozen o journal
 
--- and so is each join that installs, or copies from a source that lives or sent a part of what it copies, if it stopped with that part since
+-- and so is each join that installs, or copies from a source that lives or from which a part of what it copies was ever on its way, also where
+-- the source stopped and the part was lost with it
 abbrev pub JoinsCopyFrozen : Type 0
 JoinsCopyFrozen = (o : OpeningOf) (journal : List Step) → IsOpening o → is_run o journal ≡ true → TalkAlong o journal → JoinIsFrozen o journal
