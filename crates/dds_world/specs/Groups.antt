@@ -1,5 +1,5 @@
 -- Leaves with one name and stamp are one leaf; the bricks that serve a key list each other; leaves list the live members of those that they
--- came from; and each pending transaction lies under a leaf, and lists its live members. README says which of these is proved of every run.
+-- came from; and each pending transaction lies under a leaf, and lists its live members. All of it is proved of every run (`dds_law_config`).
 use Rattle.std.specs.Prelude.{ℕ, ◌≡◌, ◌⊎◌, true, List, Option, Some, None, is_some, slice_get}
 use Rattle.std.specs.FinMap.{get}
 use Rattle.dds_base.specs.BrickList.{has}

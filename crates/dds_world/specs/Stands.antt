@@ -115,7 +115,7 @@ IsOfACall (a ∷ rest) m =
 
 -- all calls answered with a result stand in one legal history of one map, each once, between its Input and its answer;
 -- refused calls don't stand there; an unanswered update stands there once or never; and nothing else does. It is proved of every
--- run (`dds_law_values`).
+-- run (`dds_law_config`).
 pub record Stands (t : Trace) : Type 0 where
   pub legal : IsLegal (history t)
   pub answered_once : AllByRecursion (AnsweredOnce t.told (placed_history t)) t.asked
