@@ -2,3 +2,4 @@ pub mod Link
 pub mod Views
 pub mod Keeps
 pub mod Last
+pub mod Quiet

@@ -13,6 +13,7 @@ pub mod Rungs
 pub mod Prefixes
 pub mod Opening
 pub mod Ways
+pub mod Quiet
 pub mod Letters
 pub mod OneWay
 pub mod PairTakes
