@@ -1,4 +1,4 @@
-use Rattle.std.proofs.Common.{◌≡◌, ℕ, ◌≤◌, true, None, List, [], refl, sym, subst}
+use Rattle.std.proofs.Common.{◌≡◌, ℕ, ◌≤◌, true, List, [], sym, subst}
 use Rattle.dds_cluster.proofs.Sizes.{sized-start}
 use Rattle.dds_cluster.specs.Trace.{is_run, start}
 use Rattle.dds_cluster.specs.declared.step.Step.{Step}
@@ -24,7 +24,7 @@ use Rattle.dds_orders.proofs.Turns.{letter-turns, order-goes}
 use Rattle.dds_script.specs.Opening.{IsOpening, OpeningOf}
 use Rattle.dds_states.specs.declared.brick_state.BrickState.{BrickState}
 use Rattle.dds_order_ends.proofs.Letters.{letter-waits, told-waits}
-use Rattle.dds_order_ends.proofs.Mine.{Held, Mine, heard-held, path-held}
+use Rattle.dds_order_ends.proofs.Mine.{Mine, heard-held, path-held}
 use Rattle.dds_order_ends.proofs.Rows.{OrderWaits, none-waits}
 
 -- Each event keeps whom open orders wait for, and the leases that bricks have given to themselves; and so it is along each run.

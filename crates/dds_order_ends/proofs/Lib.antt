@@ -5,3 +5,4 @@ pub mod Events
 pub mod Lines
 pub mod Live
 pub mod Over
+pub mod Runs

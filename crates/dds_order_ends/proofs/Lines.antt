@@ -1,11 +1,10 @@
-use Rattle.std.proofs.Common.{◌≡◌, ℕ, ◌==◌, ◌&&◌, ◌||◌, ◌++◌, ◌⊎◌, inl, inr, Bool, true, false, Option, Some, None, List, [], ◌∷◌, refl, sym, ap, ◌∙◌, subst}
-use Rattle.std.proofs.lemmas.Bool.{both_ways, cases_Bool, or_right}
+use Rattle.std.proofs.Common.{◌≡◌, ℕ, ◌&&◌, ◌||◌, ◌++◌, ◌⊎◌, inl, inr, Bool, true, false, Option, Some, None, List, [], ◌∷◌, refl, sym, ap, ◌∙◌, subst}
+use Rattle.std.proofs.lemmas.Bool.{both_ways, cases_Bool}
 use Rattle.std.specs.List.{list_any}
-use Rattle.std.specs.Prelude.{slice_get, if◌then◌else◌}
+use Rattle.std.specs.Prelude.{if◌then◌else◌}
 use Rattle.dds_base.specs.BrickList.{has}
 use Rattle.dds_base.specs.Name.{Name, same_name}
 use Rattle.dds_base.specs.declared.leaf.Leaf.{Leaf}
-use Rattle.dds_base.specs.declared.number.NodeNo.{NodeNo}
 use Rattle.dds_letters.specs.declared.letter.Letter.{Letter}
 use Rattle.dds_letters.specs.declared.letter.Letter.TheVariants as letter
 use Rattle.dds_letters.specs.declared.refusal.Wanted.{Wanted}
@@ -14,8 +13,8 @@ use Rattle.dds_order_talk.proofs.Lines.{HasRelease, IsHeld, given-held, is_grant
 use Rattle.dds_order_talk.proofs.Members.{one-only}
 use Rattle.dds_order_talk.proofs.Moves.{Tells}
 use Rattle.dds_order_talk.specs.Seen.{ask_of, asks, granted_view, is_its, is_named, lease_asks, one, phase_view, rests, view, wanted_name, with_leaf, work_asks}
-use Rattle.dds_order_talk.specs.Table.{Ask, Say, Stale, Talk, View}
-use Rattle.dds_order_talk.specs.Table.Ask.{copy, install, lease, old, release, stray}
+use Rattle.dds_order_talk.specs.Table.{Ask, Say, Talk}
+use Rattle.dds_order_talk.specs.Table.Ask.{copy, install, old, release}
 use Rattle.dds_order_talk.specs.Table.Talk.{asked, off}
 use Rattle.dds_order_talk.specs.Table.Stale.{clear}
 use Rattle.dds_order_talk.specs.Table.View.{Done, Due, Has, Off, Waits}

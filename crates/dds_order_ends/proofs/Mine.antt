@@ -1,6 +1,5 @@
-use Rattle.std.proofs.Common.{◌≡◌, ℕ, ◌==◌, ◌++◌, Bool, true, false, Option, Some, None, List, [], ◌∷◌, arith, refl, sym, ap, ◌∙◌, subst}
+use Rattle.std.proofs.Common.{◌≡◌, ℕ, ◌++◌, Bool, true, false, Option, Some, None, List, [], ◌∷◌, refl, sym, ap, ◌∙◌}
 use Rattle.std.proofs.lemmas.Bool.{both_ways}
-use Rattle.std.proofs.lemmas.Bool.Decides.{nat_tests}
 use Rattle.std.specs.List.{AllByRecursion}
 use Rattle.std.specs.Prelude.{if◌then◌else◌}
 use Rattle.dds_base.specs.Name.{Name, overlaps}
@@ -28,9 +27,8 @@ use Rattle.dds_orders.specs.Law.{asked_of}
 use Rattle.dds_states.specs.Turn.{without}
 use Rattle.dds_states.specs.declared.brick_state.OpenOrder.{OpenOrder}
 use Rattle.dds_states.specs.declared.brick_state.OrderPhase.TheVariants.{Copying, Installing}
-use Rattle.dds_states.specs.declared.brick_state.Task.{Task}
-use Rattle.dds_states.specs.declared.brick_state.Task.TheVariants.{Join, Split}
-use Rattle.dds_order_ends.specs.Leases.{IsOrderOf, IsSplitOf}
+use Rattle.dds_states.specs.declared.brick_state.Task.TheVariants.{Split}
+use Rattle.dds_order_ends.specs.Leases.{IsSplitOf}
 
 -- The invariant, of one brick by itself: the leases that it has given to itself.
 --

@@ -1,5 +1,5 @@
-use Rattle.std.proofs.Common.{◌≡◌, ℕ, ◌<◌, ◌≤◌, ◌==◌, ◌||◌, inl, inr, Bool, true, false, Option, Some, None, List, [], ◌∷◌, refl, sym, ap, ◌∙◌, subst}
-use Rattle.std.proofs.lemmas.Bool.{both_ways, cases_eq, eq-eqb, ne_eqb}
+use Rattle.std.proofs.Common.{◌≡◌, ℕ, ◌≤◌, ◌||◌, inl, inr, true, false, Option, Some, None, List, [], ◌∷◌, refl, sym, ap, ◌∙◌, subst}
+use Rattle.std.proofs.lemmas.Bool.{both_ways, cases_eq, ne_eqb}
 use Rattle.std.specs.List.{AllByRecursion}
 use Rattle.std.specs.Prelude.{if◌then◌else◌}
 use Rattle.dds_base.specs.BrickList.{has}
@@ -145,7 +145,7 @@ pub no-leases : (z : Sizes) (n : Net) (k : ℕ) (s : BrickState) → AreGround z
     → s.locks.leases ≡ []
 no-leases z n k s g empty on here live =
     let both : IsBoth k (own s) = subst (law_own.NodeOk k) here (g.ending.stood.own k) in
-    none-given s.locks.leases (λ (l : Lease). IsMine s.number s.order l × Unknown s.known l × IsBrick z l.holder)
+    none-given s.locks.leases (λ (l : Lease). IsMine s.number s.order l × (Unknown s.known l × IsBrick z l.holder))
     (all-both _ _ s.locks.leases (ends-at z n k s g.ending here).mine
     (all-both _ _ s.locks.leases both.0.holders (brick-parts z n k s g.placed here).its_locks.1))
     (λ l given p. gives-none z n k s l g empty on here live given p.0 p.1.0 p.1.1)

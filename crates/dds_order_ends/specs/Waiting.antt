@@ -1,5 +1,5 @@
 -- Whom open orders wait for.
-use Rattle.std.specs.Prelude.{ℕ, ◌≡◌, false, true, List, [], ◌∷◌, None, is_some}
+use Rattle.std.specs.Prelude.{◌≡◌, false, true, List, [], ◌∷◌, None, is_some}
 use Rattle.dds_base.specs.BrickList.{has}
 use Rattle.dds_base.specs.NodeSet.{has_node}
 use Rattle.dds_base.specs.declared.node_set.NodeSet.{NodeSet}

@@ -1,5 +1,5 @@
-use Rattle.dds_order_ends.proofs.Lines.{will-give-back}
+use Rattle.dds_order_ends.proofs.Runs.{leases-are-held}
 use Rattle.dds_order_ends.proofs.laws.leases_are_held.Goals as goal
 
 pub returns : goal.returns
-returns c = ?
+returns c = leases-are-held

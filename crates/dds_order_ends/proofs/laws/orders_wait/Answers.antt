@@ -1,5 +1,5 @@
-use Rattle.dds_order_ends.proofs.Events.{run-ending}
+use Rattle.dds_order_ends.proofs.Runs.{orders-wait}
 use Rattle.dds_order_ends.proofs.laws.orders_wait.Goals as goal
 
 pub returns : goal.returns
-returns c = let x = run-ending in ?
+returns c = orders-wait
