@@ -11,10 +11,10 @@ use Rattle.dds_base.specs.declared.name.TheConstants.{DEPTH}
 use Rattle.dds_base.specs.declared.node_set.NodeSet.{NodeSet}
 use Rattle.dds_base.specs.declared.number.NodeNo.{NodeNo}
 use Rattle.dds_base.specs.declared.op.Met.TheVariants as met
-use Rattle.dds_base.specs.declared.op.Order.{Order}
 use Rattle.dds_base.specs.declared.op.Order.TheVariants as the_order
-use Rattle.dds_base.specs.declared.op.OrderReply.{OrderReply}
+use Rattle.dds_base.specs.declared.op.Order.{Order}
 use Rattle.dds_base.specs.declared.op.OrderReply.TheVariants as answered
+use Rattle.dds_base.specs.declared.op.OrderReply.{OrderReply}
 use Rattle.dds_base.specs.declared.pair.Pair.{Pair}
 use Rattle.dds_brick_rows.specs.Refusal.{is_join}
 use Rattle.dds_core.proofs.Known.{has-with}
@@ -24,8 +24,8 @@ use Rattle.dds_core.specs.Notice as notices
 use Rattle.dds_law_leaf.proofs.Book.{Leafing}
 use Rattle.dds_law_notice.proofs.Views.{View, brick-does, brick-takes, view}
 use Rattle.dds_law_notice.proofs.Views.{learns as view_learns}
-use Rattle.dds_letters.specs.declared.letter.Letter.{Letter}
 use Rattle.dds_letters.specs.declared.letter.Letter.TheVariants as letter
+use Rattle.dds_letters.specs.declared.letter.Letter.{Letter}
 use Rattle.dds_letters.specs.declared.refusal.Refusal.{Refusal}
 use Rattle.dds_locks.specs.Leases.{leased}
 use Rattle.dds_locks.specs.Pending.{any_under}
@@ -39,10 +39,10 @@ use Rattle.dds_share.proofs.JoinTurns.{IsOfOrder, Rests, copies_on, letter-rests
 use Rattle.dds_states.specs.Turn.{BrickTurn, still, without}
 use Rattle.dds_states.specs.declared.brick_state.BrickState.{BrickState}
 use Rattle.dds_states.specs.declared.brick_state.OpenOrder.{OpenOrder}
-use Rattle.dds_states.specs.declared.brick_state.OrderPhase.{OrderPhase}
 use Rattle.dds_states.specs.declared.brick_state.OrderPhase.TheVariants.{Copying, Installing, Leasing}
-use Rattle.dds_states.specs.declared.brick_state.Task.{Task}
+use Rattle.dds_states.specs.declared.brick_state.OrderPhase.{OrderPhase}
 use Rattle.dds_states.specs.declared.brick_state.Task.TheVariants.{Join}
+use Rattle.dds_states.specs.declared.brick_state.Task.{Task}
 use Rattle.dds_order_ends.proofs.Rows as rows
 use Rattle.dds_order_ends.proofs.Rows.{After, OrderWaits, after-if, installing-unknown, leasing-unknown, leasing-waits, none-waits, others-unknown, that-waits}
 use Rattle.dds_order_ends.specs.Waiting.{Waits, WaitsForWay, awaited}
@@ -247,7 +247,9 @@ split-named s (Some leaf) h =
     (is_some (leased s.locks.leases leaf.name)) (any_under s.locks.pending leaf.name) h
 
 may-name : (s : BrickState) (name : Name) (a b : Bool) → OrderWaits s.known s.order
-    → After s.known (if a then order.answers s answered.Stopped else (if b then order.answers s answered.OrderOpen else order.split_named s (get s.leaves name)))
+    → After s.known (if a then order.answers s answered.Stopped
+    else (if b then order.answers s answered.OrderOpen
+    else order.split_named s (get s.leaves name)))
 may-name s name true b h = h
 may-name s name false true h = h
 may-name s name false false h = split-named s (get s.leaves name) h

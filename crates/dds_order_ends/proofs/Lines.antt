@@ -5,23 +5,23 @@ use Rattle.std.specs.Prelude.{if◌then◌else◌}
 use Rattle.dds_base.specs.BrickList.{has}
 use Rattle.dds_base.specs.Name.{Name, same_name}
 use Rattle.dds_base.specs.declared.leaf.Leaf.{Leaf}
-use Rattle.dds_letters.specs.declared.letter.Letter.{Letter}
 use Rattle.dds_letters.specs.declared.letter.Letter.TheVariants as letter
+use Rattle.dds_letters.specs.declared.letter.Letter.{Letter}
 use Rattle.dds_letters.specs.declared.refusal.Wanted.{Wanted}
 use Rattle.dds_order_rows.specs.OwnOrder.{is_leasing}
 use Rattle.dds_order_talk.proofs.Lines.{HasRelease, IsHeld, given-held, is_granted, released, was_granted}
 use Rattle.dds_order_talk.proofs.Members.{one-only}
 use Rattle.dds_order_talk.proofs.Moves.{Tells}
 use Rattle.dds_order_talk.specs.Seen.{ask_of, asks, granted_view, is_its, is_named, lease_asks, one, phase_view, rests, view, wanted_name, with_leaf, work_asks}
-use Rattle.dds_order_talk.specs.Table.{Ask, Say, Talk}
 use Rattle.dds_order_talk.specs.Table.Ask.{copy, install, old, release}
-use Rattle.dds_order_talk.specs.Table.Talk.{asked, off}
 use Rattle.dds_order_talk.specs.Table.Stale.{clear}
+use Rattle.dds_order_talk.specs.Table.Talk.{asked, off}
 use Rattle.dds_order_talk.specs.Table.View.{Done, Due, Has, Off, Waits}
+use Rattle.dds_order_talk.specs.Table.{Ask, Say, Talk}
 use Rattle.dds_orders.proofs.Leases.{same-is}
 use Rattle.dds_states.specs.declared.brick_state.OpenOrder.{OpenOrder}
-use Rattle.dds_states.specs.declared.brick_state.OrderPhase.{OrderPhase}
 use Rattle.dds_states.specs.declared.brick_state.OrderPhase.TheVariants.{Copying, Installing, Leasing}
+use Rattle.dds_states.specs.declared.brick_state.OrderPhase.{OrderPhase}
 use Rattle.dds_order_ends.specs.Leases.{IsOrderOf, WillGiveBack, is_release}
 use Rattle.dds_order_ends.specs.Waiting.{awaited}
 

@@ -3,6 +3,7 @@ use Rattle.std.proofs.lemmas.Bool.{both_ways, cases_Bool}
 use Rattle.std.specs.List.{AllByRecursion}
 use Rattle.std.specs.Prelude.{is_some}
 use Rattle.dds_base.specs.BrickList.{has}
+use Rattle.dds_base.specs.Name.{Name}
 use Rattle.dds_base.specs.NodeSet.{has_node}
 use Rattle.dds_base.specs.Number.{Txn}
 use Rattle.dds_base.specs.declared.number.NodeNo.{NodeNo}
@@ -13,6 +14,7 @@ use Rattle.dds_cluster.specs.World.{World, brick_at}
 use Rattle.dds_law_notice.proofs.Keeps.{AreLinked}
 use Rattle.dds_law_notice.proofs.Quiet.{all-known}
 use Rattle.dds_law_notice.proofs.Views.{knows, view}
+use Rattle.dds_locks.specs.Leases.{is_given}
 use Rattle.dds_net.proofs.Places.{low-in}
 use Rattle.dds_net.proofs.Quiet.{IsEmpty}
 use Rattle.dds_net.proofs.Ways.{NodeIs, is_brick, is_library, is_nowhere, node-is}
@@ -21,12 +23,10 @@ use Rattle.dds_order_talk.proofs.Holds.{both-live}
 use Rattle.dds_order_talk.specs.Seen.{OrdersTalk, New, Own, asks, rests, says}
 use Rattle.dds_order_talk.specs.Seen.{view as view_of}
 use Rattle.dds_order_talk.specs.Table.{Talk}
-use Rattle.dds_base.specs.Name.{Name}
-use Rattle.dds_locks.specs.Leases.{is_given}
 use Rattle.dds_states.specs.declared.brick_state.BrickState.{BrickState}
 use Rattle.dds_states.specs.declared.brick_state.OpenOrder.{OpenOrder}
-use Rattle.dds_states.specs.declared.brick_state.OrderPhase.{OrderPhase}
 use Rattle.dds_states.specs.declared.brick_state.OrderPhase.TheVariants.{Copying, Installing, Leasing}
+use Rattle.dds_states.specs.declared.brick_state.OrderPhase.{OrderPhase}
 use Rattle.dds_talk.proofs.Grounds.{known-over}
 use Rattle.dds_order_ends.specs.Waiting.{awaited}
 

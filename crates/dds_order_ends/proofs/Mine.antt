@@ -21,8 +21,8 @@ use Rattle.dds_orders.proofs.Numbers.{the-order}
 use Rattle.dds_orders.proofs.Over.{overlaps-self}
 use Rattle.dds_orders.proofs.Standing.{Standing, Stood, deed-both, deed-stands, heard-stood}
 use Rattle.dds_orders.proofs.Turns.{Hears, copies_not, denies, gives, grants, grants_not, hears_other, installed_not, installs, installs_not}
-use Rattle.dds_orders.proofs.Turns.{is_installed, is_refused, learns, refused_not, releases, sends_none, sends_part}
 use Rattle.dds_orders.proofs.Turns.{copies as copies_part}
+use Rattle.dds_orders.proofs.Turns.{is_installed, is_refused, learns, refused_not, releases, sends_none, sends_part}
 use Rattle.dds_orders.specs.Law.{asked_of}
 use Rattle.dds_states.specs.Turn.{without}
 use Rattle.dds_states.specs.declared.brick_state.OpenOrder.{OpenOrder}

@@ -15,20 +15,20 @@ use Rattle.dds_locks.specs.Leases.{is_given}
 use Rattle.dds_locks.specs.declared.leases.Lease.{Lease}
 use Rattle.dds_net.proofs.Quiet.{IsEmpty}
 use Rattle.dds_net.specs.Net.{Net, Sizes, a_brick}
+use Rattle.dds_order_rows.specs.OwnOrder.{is_leasing}
 use Rattle.dds_order_talk.proofs.Holds.{name-self}
 use Rattle.dds_order_talk.proofs.Letters as within
 use Rattle.dds_order_talk.proofs.Letters.{AreWithin}
 use Rattle.dds_order_talk.proofs.Members.{AskedOk, it-has, one-only}
 use Rattle.dds_order_talk.specs.Seen.{New, OrdersTalk, Own, asks, phase_view, rests, says, view}
-use Rattle.dds_order_talk.specs.Table.{Talk}
 use Rattle.dds_order_talk.specs.Table.View.{Off}
+use Rattle.dds_order_talk.specs.Table.{Talk}
 use Rattle.dds_orders.proofs.Leases.{lease-self}
 use Rattle.dds_states.specs.Turn.{is_none_left}
 use Rattle.dds_states.specs.declared.brick_state.BrickState.{BrickState}
 use Rattle.dds_states.specs.declared.brick_state.OpenOrder.{OpenOrder}
-use Rattle.dds_states.specs.declared.brick_state.OrderPhase.{OrderPhase}
 use Rattle.dds_states.specs.declared.brick_state.OrderPhase.TheVariants.{Copying, Installing, Leasing}
-use Rattle.dds_order_rows.specs.OwnOrder.{is_leasing}
+use Rattle.dds_states.specs.declared.brick_state.OrderPhase.{OrderPhase}
 use Rattle.dds_order_ends.proofs.Events.{AreEnding, Ends, NodeEnds}
 use Rattle.dds_order_ends.proofs.Lines.{awaited-speaks, off-silent}
 use Rattle.dds_order_ends.proofs.Live.{Spoken, awaited-bricks, brick-inside, brick-parts, brick-placed, live-talk, live-unknown, unknown-live}

@@ -7,8 +7,9 @@ use Rattle.dds_base.specs.declared.brick_list.TheConstants.{MEMBERS}
 use Rattle.dds_base.specs.declared.leaf.Leaf.{Leaf}
 use Rattle.dds_base.specs.declared.node_set.NodeSet.{NodeSet}
 use Rattle.dds_base.specs.declared.number.NodeNo.{NodeNo}
-use Rattle.dds_base.specs.declared.op.OrderReply.{OrderReply}
 use Rattle.dds_base.specs.declared.op.OrderReply.TheVariants as answered
+use Rattle.dds_base.specs.declared.op.OrderReply.{OrderReply}
+use Rattle.dds_base.specs.declared.pair.Pair.{Pair}
 use Rattle.dds_groups.proofs.Members.{has-live}
 use Rattle.dds_groups.specs.Leaves.{live}
 use Rattle.dds_order_rows.specs.OwnOrder as order
@@ -16,10 +17,10 @@ use Rattle.dds_order_talk.proofs.Members.{append-parts, has-passes, in-without, 
 use Rattle.dds_states.specs.Turn.{BrickTurn, is_none_left, unknown, unknown_others, without}
 use Rattle.dds_states.specs.declared.brick_state.BrickState.{BrickState}
 use Rattle.dds_states.specs.declared.brick_state.OpenOrder.{OpenOrder}
-use Rattle.dds_states.specs.declared.brick_state.OrderPhase.{OrderPhase}
 use Rattle.dds_states.specs.declared.brick_state.OrderPhase.TheVariants.{Copying, Installing, Leasing}
-use Rattle.dds_states.specs.declared.brick_state.Task.{Task}
+use Rattle.dds_states.specs.declared.brick_state.OrderPhase.{OrderPhase}
 use Rattle.dds_states.specs.declared.brick_state.Task.TheVariants.{Join, Split}
+use Rattle.dds_states.specs.declared.brick_state.Task.{Task}
 use Rattle.dds_order_ends.specs.Waiting.{Waits, WaitsForWay, awaited}
 
 -- The invariant, of one brick's open order: whom it waits for.
@@ -64,9 +65,6 @@ live-unknown ns known m h =
 
 pub others-unknown : (ns : List NodeNo) (me : ℕ) (known : NodeSet) (m : ℕ) → has (unknown_others ns me known) m ≡ true → has_node known m ≡ false
 others-unknown ns me known m h = live-unknown ns known m (in-without (unknown ns known) me m h).1
-
-AreUnknown : NodeSet → List NodeNo → Type 0
-AreUnknown known ns = (m : NodeNo) → has ns m ≡ true → has_node known m ≡ false
 
 -- an order with a leaf, in a phase
 with-leaf : (known : NodeSet) (o : OpenOrder) (leaf : Leaf) → o.leaf ≡ Some leaf → is_none_left (awaited o.phase o.waiting) ≡ false
@@ -202,7 +200,7 @@ copied_on : (s : BrickState) (o : OpenOrder) (source : NodeNo) (last : Bool) →
 copied_on s o source true h = copied_all s o o.leaf refl h
 copied_on s o source false h = that-waits s.known o h
 
-pub copied : (s : BrickState) (o : OpenOrder) (source : NodeNo) (last : Bool) (pairs : List _) → Waits s.known o
+pub copied : (s : BrickState) (o : OpenOrder) (source : NodeNo) (last : Bool) (pairs : List Pair) → Waits s.known o
     → After s.known (order.copied_on s (record o { copied = o.copied ++ pairs }) source last)
 copied s o source last pairs h =
     copied_on s (record o { copied = o.copied ++ pairs }) source last

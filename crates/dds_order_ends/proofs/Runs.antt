@@ -1,6 +1,7 @@
 use Rattle.std.proofs.Common.{◌≡◌, ℕ, ◌||◌, zero, suc, true, Some, List, [], ◌∷◌, sym, ap, ◌∙◌, subst}
 use Rattle.std.proofs.lemmas.Bool.{ne_eqb, or_right}
 use Rattle.std.specs.Prelude.{slice_get}
+use Rattle.dds_books.specs.Placed.{IsBrick}
 use Rattle.dds_cluster.specs.Trace.{is_run}
 use Rattle.dds_cluster.specs.declared.step.Step.{Step}
 use Rattle.dds_core.proofs.Lists.{all-is}
@@ -10,7 +11,6 @@ use Rattle.dds_law_own.proofs.Owned.{Unknown}
 use Rattle.dds_law_own.proofs.Parted.{IsBoth}
 use Rattle.dds_locks.specs.Leases.{is_given, is_lease}
 use Rattle.dds_locks.specs.declared.leases.Lease.{Lease}
-use Rattle.dds_books.specs.Placed.{IsBrick}
 use Rattle.dds_net.proofs.Journals.{net_of}
 use Rattle.dds_net.proofs.Nodes.{brick-node}
 use Rattle.dds_net.proofs.Quiet.{quiet-net}

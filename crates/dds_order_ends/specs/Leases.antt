@@ -7,8 +7,8 @@ use Rattle.dds_base.specs.declared.number.NodeNo.{NodeNo}
 use Rattle.dds_cluster.specs.Trace.{is_run}
 use Rattle.dds_cluster.specs.World.{World, brick_at}
 use Rattle.dds_cluster.specs.declared.step.Step.{Step}
-use Rattle.dds_letters.specs.declared.letter.Letter.{Letter}
 use Rattle.dds_letters.specs.declared.letter.Letter.TheVariants as letter
+use Rattle.dds_letters.specs.declared.letter.Letter.{Letter}
 use Rattle.dds_locks.specs.declared.leases.Lease.{Lease}
 use Rattle.dds_net.specs.Net.{channel_at, sizes_of}
 use Rattle.dds_script.specs.Opening.{IsOpening, OpeningOf}

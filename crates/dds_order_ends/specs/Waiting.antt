@@ -1,5 +1,5 @@
 -- Whom open orders wait for.
-use Rattle.std.specs.Prelude.{◌≡◌, false, true, List, [], ◌∷◌, None, is_some}
+use Rattle.std.specs.Prelude.{◌≡◌, false, true, List, [], ◌∷◌, Some, None, is_some}
 use Rattle.dds_base.specs.BrickList.{has}
 use Rattle.dds_base.specs.NodeSet.{has_node}
 use Rattle.dds_base.specs.declared.node_set.NodeSet.{NodeSet}
@@ -11,11 +11,10 @@ use Rattle.dds_script.specs.Opening.{IsOpening, OpeningOf}
 use Rattle.dds_states.specs.Turn.{is_none_left}
 use Rattle.dds_states.specs.declared.brick_state.BrickState.{BrickState}
 use Rattle.dds_states.specs.declared.brick_state.OpenOrder.{OpenOrder}
-use Rattle.dds_states.specs.declared.brick_state.OrderPhase.{OrderPhase}
 use Rattle.dds_states.specs.declared.brick_state.OrderPhase.TheVariants.{Copying, Installing, Leasing}
+use Rattle.dds_states.specs.declared.brick_state.OrderPhase.{OrderPhase}
 use Rattle.dds_states.specs.declared.brick_state.Task.TheVariants.{Join}
 use Rattle.dds_world.specs.Places.{IsLive, reached}
-use Rattle.std.specs.Prelude.{Some}
 
 -- whom an order waits for in a phase: those whose leases it waits for, the one that it copies from, those that are to install the made leaf
 abbrev pub awaited : OrderPhase → List NodeNo → List NodeNo

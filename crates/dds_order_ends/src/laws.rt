@@ -17,8 +17,9 @@ pub fn leases_are_held()
     ensures { LeasesAreHeld }
 {}
 
-/// In each world of each run in which nothing is on its way, if a source that was asked for pairs always has them on their way: no live brick
-/// has an open order, or has given a lease.
+/// In each world of each run in which nothing is on its way, with stops, splits and joins: no live brick has an open order, or has given a
+/// lease. It is a premise that copying goes on: between a live brick that copies and the live member that it copies from, a CopyAsk or a
+/// CopyPart of the order is on its way.
 pub fn quiet_orders_are_over()
     ensures { QuietOrdersAreOver }
 {}
