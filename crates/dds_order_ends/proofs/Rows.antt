@@ -55,8 +55,8 @@ after-if known true t u f g = f refl
 after-if known false t u f g = g refl
 
 -- lists
-pub live-unknown : (ns : List NodeNo) (known : NodeSet) (m : ℕ) → has (live ns (has_node known)) m ≡ true → has_node known m ≡ false
-live-unknown ns known m h =
+pub listed-unknown : (ns : List NodeNo) (known : NodeSet) (m : ℕ) → has (live ns (has_node known)) m ≡ true → has_node known m ≡ false
+listed-unknown ns known m h =
     not-one (has_node known m) (and_parts (has ns m) (not (has_node known m)) (sym (has-live ns (has_node known) m) ∙ h)).1
   where
     not-one : (c : Bool) → not c ≡ true → c ≡ false
@@ -64,7 +64,7 @@ live-unknown ns known m h =
     not-one false e = refl
 
 pub others-unknown : (ns : List NodeNo) (me : ℕ) (known : NodeSet) (m : ℕ) → has (unknown_others ns me known) m ≡ true → has_node known m ≡ false
-others-unknown ns me known m h = live-unknown ns known m (in-without (unknown ns known) me m h).1
+others-unknown ns me known m h = listed-unknown ns known m (in-without (unknown ns known) me m h).1
 
 -- an order with a leaf, in a phase
 with-leaf : (known : NodeSet) (o : OpenOrder) (leaf : Leaf) → o.leaf ≡ Some leaf → is_none_left (awaited o.phase o.waiting) ≡ false
@@ -85,7 +85,7 @@ installs_from s o leaf made (n ∷ ns) e f =
 installs : (s : BrickState) (o : OpenOrder) (leaf : Leaf) → o.leaf ≡ Some leaf → After s.known (order.installs s o leaf)
 installs s o leaf e =
     installs_from (record s { made = s.made + 1 }) o leaf (order.made_leaf s o leaf o.task) (without (order.parting s o leaf) s.number) e
-    (λ m h. live-unknown leaf.list s.known m
+    (λ m h. listed-unknown leaf.list s.known m
     (has-passes (order.takes_part s o) (live leaf.list (has_node s.known)) m (in-without (order.parting s o leaf) s.number m h).1).1)
 
 -- it copies
@@ -99,7 +99,7 @@ copies_from s o leaf (n ∷ ns) e f =
 pub copies : (s : BrickState) (o : OpenOrder) (leaf : Leaf) → o.leaf ≡ Some leaf → After s.known (order.copies s o leaf)
 copies s o leaf e =
     copies_from s o leaf (order.sources s o leaf) e
-    (λ m h. live-unknown leaf.list s.known m (has-passes (λ node. has o.granted node) (live leaf.list (has_node s.known)) m h).1)
+    (λ m h. listed-unknown leaf.list s.known m (has-passes (λ node. has o.granted node) (live leaf.list (has_node s.known)) m h).1)
 
 -- it leases
 leased_all : (s : BrickState) (o : OpenOrder) (leaf : Leaf) (t : Task) → o.leaf ≡ Some leaf → After s.known (order.leased_all s o leaf t)
