@@ -76,7 +76,7 @@ new-commits o k x (no_node e) = subst (LibraryIs (AreCommitting talk.no_books)) 
 new-commits o k x (new_a_brick e) = subst (LibraryIs (AreCommitting talk.no_books)) (sym e) tt
 new-commits o k x (new_a_library high e) = subst (LibraryIs (AreCommitting talk.no_books)) (sym e) (λ live. tt)
 
-none-open : (libraries k n i : ℕ) (x : Caller) (call : CallNo) → slice_get (new_callers libraries k n) i ≡ Some x → x.call ≡ Some call → ⊥
+pub none-open : (libraries k n i : ℕ) (x : Caller) (call : CallNo) → slice_get (new_callers libraries k n) i ≡ Some x → x.call ≡ Some call → ⊥
 none-open libraries zero n i x call e f = cc
 none-open libraries (suc k) n zero x call e f =
     let no : None ≡ Some call = ap call_then e ∙ f in

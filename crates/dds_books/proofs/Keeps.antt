@@ -170,7 +170,7 @@ asked-beside cs at caller call s m h =
 own-calls : (h : History) (n : Net) (at : ℕ) (s : LibraryState) → n.node at ≡ a_library s → AreBooked h n → CallsOk h.callers at s
 own-calls h n at s e g = subst (LibraryIs (CallsOk h.callers at)) e (g.calls at)
 
-heard-books : (cs : List Caller) (at : ℕ) (s : LibraryState) (from : NodeNo) (l : Letter) → CallsOk cs at s → Booked s cs at (heard s from l) no_out
+pub heard-books : (cs : List Caller) (at : ℕ) (s : LibraryState) (from : NodeNo) (l : Letter) → CallsOk cs at s → Booked s cs at (heard s from l) no_out
 heard-books cs at s from letter.Notice h = record {
   calls = calls-same cs at s (with_node s.known from) s.stopped h;
   others = record { stay = λ k x e ne. e };

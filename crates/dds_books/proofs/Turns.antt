@@ -69,7 +69,7 @@ closed-other : (cs : List Caller) (caller k : ℕ) (call : CallNo) (txn : Txn) (
 closed-other cs caller k call txn None ne = refl
 closed-other cs caller k call txn (Some r) ne = closes-other cs caller k (slice_get cs caller) ne
 
-closed-append : (cs : List Caller) (rs qs : List Replied) → all_closed cs (rs ++ qs) ≡ all_closed (all_closed cs rs) qs
+pub closed-append : (cs : List Caller) (rs qs : List Replied) → all_closed cs (rs ++ qs) ≡ all_closed (all_closed cs rs) qs
 closed-append cs [] qs = refl
 closed-append cs (r ∷ rs) qs = closed-append (closed_by cs r) rs qs
 

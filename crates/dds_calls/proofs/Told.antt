@@ -5,10 +5,9 @@ use Rattle.std.proofs.lemmas.List.{append-nil, append_assoc, take-append-le}
 use Rattle.std.proofs.lemmas.Option.{slice_get_within}
 use Rattle.std.specs.List.{AllByRecursion}
 use Rattle.std.specs.Prelude.{slice_get, take, if◌then◌else◌}
-use Rattle.dds_cluster.specs.Trace.{adds, asked_by, is_possible, next, replies_in, run_of, start, told_at, told_by, trace_from}
+use Rattle.dds_cluster.specs.Trace.{adds, all_kept, asked_by, is_possible, next, replies_in, run_of, start, told_at, told_by, trace_from}
 use Rattle.dds_cluster.specs.Turn.{turn}
 use Rattle.dds_cluster.specs.declared.step.Step.{Step}
-use Rattle.dds_cluster.specs.declared.trace.Asked.{Asked}
 use Rattle.dds_cluster.specs.declared.trace.Told.{Told}
 use Rattle.dds_cluster.specs.declared.trace.Trace.{Trace}
 use Rattle.dds_core.proofs.Lists.{all-append, all-map}
@@ -48,10 +47,23 @@ steps-are o journal =
     each-journal (λ j. (run_of o j).steps ≡ length j) refl
     (λ j x h. ap (λ (t : Trace). t.steps) (trace-grown (start o) j x) ∙ step-count (run_of o j) x ∙ ap (λ k. k + 1) h ∙ sym (length-grown j x)) journal
 
--- the calls that a journal asks are asked by a longer one too
-pub record GrewBy (xs ys : List Asked) : Type 0 where
-  pub more : List Asked
+-- a list that each step leaves or makes longer begins, after a longer journal, as it was after a shorter one
+pub record GrewBy {X : Type 0} (xs ys : List X) : Type 0 where
+  pub more : List X
   pub is : ys ≡ xs ++ more
+
+grown-by : {X : Type 0} (f : Trace → List X) → ((t : Trace) (x : Step) → GrewBy (f t) (f (next t x))) → (t : Trace) (more : List Step)
+    → GrewBy (f t) (f (trace_from t more))
+grown-by f grows t [] = record { more = []; is = sym (append-nil (f t)) }
+grown-by f grows t (x ∷ more) =
+    let one = grows t x in
+    let rest = grown-by f grows (next t x) more in
+    record { more = one.more ++ rest.more; is = rest.is ∙ ap (λ xs. xs ++ rest.more) one.is ∙ append_assoc (f t) one.more rest.more }
+
+grown-from : {X : Type 0} (f : Trace → List X) → ((t : Trace) (x : Step) → GrewBy (f t) (f (next t x))) → (t : Trace) (front more : List Step)
+    → GrewBy (f (trace_from t front)) (f (trace_from t (front ++ more)))
+grown-from f grows t [] more = grown-by f grows t more
+grown-from f grows t (x ∷ front) more = grown-from f grows (next t x) front more
 
 next-asked : (t : Trace) (x : Step) → GrewBy t.asked (next t x).asked
 next-asked t x = by (is_possible t x)
@@ -60,16 +72,19 @@ next-asked t x = by (is_possible t x)
     by true = record { more = asked_by t.steps x; is = refl }
     by false = record { more = []; is = sym (append-nil t.asked) }
 
-from-asked : (t : Trace) (more : List Step) → GrewBy t.asked (trace_from t more).asked
-from-asked t [] = record { more = []; is = sym (append-nil t.asked) }
-from-asked t (x ∷ more) =
-    let one = next-asked t x in
-    let rest = from-asked (next t x) more in
-    record { more = one.more ++ rest.more; is = rest.is ∙ ap (λ xs. xs ++ rest.more) one.is ∙ append_assoc t.asked one.more rest.more }
+next-made : (t : Trace) (x : Step) → GrewBy t.made (next t x).made
+next-made t x = by (is_possible t x)
+  where
+    by : (b : Bool) → GrewBy t.made (if b then adds t x (turn t.steps t.world x) else record t { steps = t.steps + 1 }).made
+    by true = record { more = all_kept t.made (turn t.steps t.world x).made; is = refl }
+    by false = record { more = []; is = sym (append-nil t.made) }
 
-pub asked-from : (t : Trace) (journal more : List Step) → GrewBy (trace_from t journal).asked (trace_from t (journal ++ more)).asked
-asked-from t [] more = from-asked t more
-asked-from t (x ∷ journal) more = asked-from (next t x) journal more
+-- so do the calls that were asked, and the points
+pub asked-from : (t : Trace) (front more : List Step) → GrewBy (trace_from t front).asked (trace_from t (front ++ more)).asked
+asked-from t front more = grown-from (λ (u : Trace). u.asked) next-asked t front more
+
+pub made-from : (t : Trace) (front more : List Step) → GrewBy (trace_from t front).made (trace_from t (front ++ more)).made
+made-from t front more = grown-from (λ (u : Trace). u.made) next-made t front more
 
 -- One step's answers
 

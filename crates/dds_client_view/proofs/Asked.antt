@@ -4,12 +4,12 @@ use Rattle.std.proofs.lemmas.Bool.{cases_eq}
 use Rattle.std.proofs.lemmas.List.Folds.{list_any-append}
 use Rattle.std.proofs.lemmas.Option.{slice_get_within}
 use Rattle.std.specs.Prelude.{slice_get, slice_set}
-use Rattle.std.proofs.Common.{arith, zero, suc}
+use Rattle.std.proofs.Common.{arith}
 use Rattle.std.proofs.lemmas.Bool.Decides.{nat_tests}
 use Rattle.dds_base.specs.declared.number.CallNo.{CallNo}
 use Rattle.dds_base.specs.declared.op.Op.{Op}
 use Rattle.dds_cluster.specs.Lists.{is_asked, is_call_of}
-use Rattle.dds_cluster.specs.Trace.{all_closed, closes, new_callers, opens}
+use Rattle.dds_cluster.specs.Trace.{all_closed, closes, opens}
 use Rattle.dds_cluster.specs.declared.trace.Asked.{Asked}
 use Rattle.dds_cluster.specs.declared.trace.Caller.{Caller}
 use Rattle.dds_net.proofs.Nodes.{get-set-other, get-set-same}
@@ -87,15 +87,3 @@ opened-open h other g = more-open h.callers h.asked g
 -- each event keeps it
 pub open-then : (h : History) (e : Event) → OpenIsAsked h.callers h.asked → OpenIsAsked (goes h e).callers (goes h e).asked
 open-then h e g = closed-open (opened_of h.callers e) (goes h e).asked (replies_of e) (opened-open h e g)
-
--- no call is open before the first step
-pub none-open : (libraries k n i : ℕ) (x : Caller) (call : CallNo) → slice_get (new_callers libraries k n) i ≡ Some x → x.call ≡ Some call → ⊥
-none-open libraries zero n i x call e f = cc
-none-open libraries (suc k) n zero x call e f =
-    let no : None ≡ Some call = ap call_then e ∙ f in
-    cc
-  where
-    call_then : Option Caller → Option CallNo
-    call_then None = None
-    call_then (Some y) = y.call
-none-open libraries (suc k) n (suc i) x call e f = none-open libraries k (n + 1) i x call e f

@@ -3,7 +3,7 @@ use Rattle.std.proofs.Common.{◌≡◌, ℕ, ◌+◌, ◌<◌, ◌≤◌, ◌++
 use Rattle.std.specs.List.{AllByRecursion}
 use Rattle.std.specs.Prelude.{slice_get}
 use Rattle.dds_answered.proofs.Flags.{own-calls}
-use Rattle.dds_attempts.proofs.Runs.{Stands, stands-kept}
+use Rattle.dds_attempts.proofs.Runs.{Stands, none-open, stands-kept}
 use Rattle.dds_base.specs.Number.{Txn}
 use Rattle.dds_base.specs.Op.{is_get}
 use Rattle.dds_base.specs.declared.number.CallNo.{CallNo}
@@ -15,7 +15,7 @@ use Rattle.dds_call_rows.specs.Library.{begin}
 use Rattle.dds_calls.proofs.Answered.{differ, made-all}
 use Rattle.dds_calls.proofs.Reasons.{Reason, begins-again, lost, met, reason, result, was_full}
 use Rattle.dds_calls.proofs.Treats.{Answers, library-treats}
-use Rattle.dds_client_view.proofs.Asked.{OpenIsAsked, asked-last, asked-more, none-open, open-then}
+use Rattle.dds_client_view.proofs.Asked.{OpenIsAsked, asked-last, asked-more, open-then}
 use Rattle.dds_client_view.proofs.Order.{IsAt}
 use Rattle.dds_cluster.specs.Lists.{is_asked}
 use Rattle.dds_client_view.proofs.Once.{OtherReply, OtherTold, no-calls-apart, one-answer-apart, told-apart, turn-apart}

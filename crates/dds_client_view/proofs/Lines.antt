@@ -1,9 +1,8 @@
 -- What all lines of a script show of the run that they make.
-use Rattle.std.proofs.Common.{◌≡◌, ℕ, ◌+◌, ◌<◌, ◌≤◌, Bool, true, false, List, [], ◌∷◌, ◌++◌, Option, Some, None, zero, suc, refl}
+use Rattle.std.proofs.Common.{◌≡◌, ℕ, ◌+◌, ◌<◌, ◌≤◌, Bool, true, false, List, [], ◌∷◌, ◌++◌, Option, Some, None, refl}
 use Rattle.std.proofs.Common.{sym, ap, subst, ◌∙◌, arith, append_assoc, length}
-use Rattle.std.specs.Prelude.{drop, is_none, is_some, slice_get, slice_index_or, if◌then◌else◌}
+use Rattle.std.specs.Prelude.{drop, is_some, slice_get, slice_index_or, if◌then◌else◌}
 use Rattle.std.specs.List.{AllByRecursion}
-use Rattle.std.proofs.lemmas.Bool.Decides.{nat_tests}
 use Rattle.std.proofs.lemmas.List.{append-nil, length-set}
 use Rattle.std.proofs.Math.Seq.{drop-append_seam}
 use Rattle.dds_base.specs.declared.number.CallNo.{CallNo}
@@ -32,10 +31,11 @@ use Rattle.dds_script.specs.declared.line.Line.{Line}
 use Rattle.dds_script.specs.declared.line.Line.TheVariants as line
 use Rattle.dds_transcript.specs.declared.report_line.ReportLine.{ReportLine}
 use Rattle.dds_transcript.specs.declared.report_line.ReportLine.TheVariants as report
-use Rattle.dds_walk.proofs.Counted.{AreCounted, counted-get}
-use Rattle.dds_walk.proofs.Walked.{IsWalked, walked-line}
+use Rattle.dds_walk.proofs.Counted.{counted-get}
+use Rattle.dds_walk.proofs.Walked.{IsWalked, call-possible, walked-line}
 use Rattle.dds_walk.specs.Walk.{call_alone, call_with, counted, line_done, lines_done, played, says}
 use Rattle.dds_walk.specs.declared.walk.Walk.{Walk}
+use Rattle.dds_walk.proofs.AlongLines.{caller-there}
 
 -- a line with what it printed between two walks
 abbrev pub seen_between : Line → Walk → Walk → SeenLine
@@ -43,23 +43,6 @@ seen_between l w v = record { line = l; printed = drop (length w.lines) v.lines 
 
 printed-is : (w v : Walk) (more : List ReportLine) → v.lines ≡ w.lines ++ more → drop (length w.lines) v.lines ≡ more
 printed-is w v more e = ap (drop (length w.lines)) e ∙ drop-append_seam w.lines more
-
--- a caller is there
-caller-there : (cs : List Caller) (ns : List ℕ) (i : ℕ) → AreCounted cs ns → i < length ns → slice_get cs i ≡ None → ⊥
-caller-there [] [] i a l e = omega (arith, l)
-caller-there [] (n ∷ ns) i a l e = a
-caller-there (c ∷ cs) [] i a l e = a
-caller-there (c ∷ cs) (n ∷ ns) zero a l e = cc e
-caller-there (c ∷ cs) (n ∷ ns) (suc i) a l e = caller-there cs ns i a.1 (omega (arith, l)) e
-
-no-call : (c : Option CallNo) → is_some c ≡ false → is_none c ≡ true
-no-call None e = refl
-no-call (Some c) e = absurd (cc)
-
-call-possible : (c : Caller) (call : CallNo) → is_some c.call ≡ false → c.least ≤ call.0 → may_call (Some c) c.library call ≡ true
-call-possible c call free low =
-    let none : is_none c.call ≡ true = no-call c.call free in
-    grind (arith, nat_tests, none, low)
 
 -- the number of a caller's next call, and the walk behind its line
 abbrev next_call : Walk → CallerNo → CallNo

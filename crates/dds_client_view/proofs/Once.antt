@@ -9,17 +9,17 @@ use Rattle.dds_base.specs.Number.{Txn}
 use Rattle.dds_base.specs.declared.number.CallNo.{CallNo}
 use Rattle.dds_base.specs.declared.number.NodeNo.{NodeNo}
 use Rattle.dds_base.specs.declared.op.Reply.{Reply}
-use Rattle.dds_books.proofs.Turns.{Booked, one-keeps}
-use Rattle.dds_books.specs.Calls.{CallsOk, IsOwned, PrepareOk}
+use Rattle.dds_books.proofs.Keeps.{heard-books}
+use Rattle.dds_books.proofs.Turns.{Booked, closed-append, one-keeps}
+use Rattle.dds_books.specs.Calls.{CallsOk, IsOwned}
 use Rattle.dds_client_view.proofs.Shut.{ReplySays}
-use Rattle.dds_cluster.specs.Trace.{all_closed, closed_by, closes, told_at}
+use Rattle.dds_cluster.specs.Trace.{all_closed, closes, told_at}
 use Rattle.dds_cluster.specs.declared.trace.Caller.{Caller}
 use Rattle.dds_cluster.specs.declared.trace.Told.{Told}
 use Rattle.dds_core.proofs.CallTurns.{OneKeeps, heard, library-keeps}
 use Rattle.dds_core.proofs.Lists.{all-append, all-is}
-use Rattle.dds_core.specs.LibraryTurn.{call_row, desk_of, learns, live_library_turn, replies_of}
+use Rattle.dds_core.specs.LibraryTurn.{call_row, desk_of, live_library_turn, replies_of}
 use Rattle.dds_letters.specs.declared.letter.Letter.{Letter}
-use Rattle.dds_letters.specs.declared.letter.Letter.TheVariants as letter
 use Rattle.dds_net.proofs.Nodes.{get-set-other, get-set-same}
 use Rattle.dds_net.proofs.Pairwise.{Pairwise, pairs-append}
 use Rattle.dds_states.specs.Turn.{no_out}
@@ -66,10 +66,6 @@ closes-own cs caller call (Some c) e = λ x there is.
     let same : d ≡ x = (let two : Some d ≡ Some x = sym (get-set-same cs caller d (slice_get_within cs caller c e)) ∙ there in cc) in
     let no : None ≡ Some call = ap (λ (y : Caller). y.call) same ∙ is in
     cc
-
-closed-append : (cs : List Caller) (rs qs : List Replied) → all_closed cs (rs ++ qs) ≡ all_closed (all_closed cs rs) qs
-closed-append cs [] qs = refl
-closed-append cs (r ∷ rs) qs = closed-append (closed_by cs r) rs qs
 
 abbrev AreClosed : List Caller → List Replied → Type 0
 AreClosed cs rs = AllByRecursion (ReplySays (λ k call x. IsClosed cs k call)) rs
@@ -127,19 +123,6 @@ one-apart old cs at from l s out place c e concerns h =
     let o = all-is (IsOwned (all_closed cs out.replies) at) s.calls place c h.booked.calls.owned e in
     let j = joined cs out.replies o.caller c.request.caller c.request.call c.txn t.went.reply o.there o.call h.closed h.apart in
     record { booked = one-keeps old cs at from l s out place c e concerns h.booked; closed = j.closed; apart = j.apart }
-
-prepare-heard : (s : LibraryState) (from : NodeNo) (l : Letter) → PrepareOk s l → PrepareOk (learns s from) l
-prepare-heard s from (letter.Prepare txn caller call below name stamp list op) h = h
-prepare-heard s from other h = tt
-
-heard-books : (cs : List Caller) (at : ℕ) (s : LibraryState) (from : NodeNo) (l : Letter) → CallsOk cs at s → Booked s cs at (heard s from l) no_out
-heard-books cs at s from letter.Notice h = record {
-  calls = record { below = h.below; owned = h.owned; apart = h.apart };
-  others = record { stay = λ k x e ne. e };
-  later = λ l k. prepare-heard s from l k;
-  letters = tt;
-}
-heard-books cs at s from other h = record { calls = h; others = record { stay = λ k x e ne. e }; later = λ l k. k; letters = tt }
 
 heard-apart : (cs : List Caller) (at : ℕ) (s : LibraryState) (from : NodeNo) (l : Letter) → CallsOk cs at s → Apart s cs at (heard s from l) no_out
 heard-apart cs at s from l h = record { booked = heard-books cs at s from l h; closed = tt; apart = tt }

@@ -1,7 +1,7 @@
 -- What the lines of a script print, ask and are told, on a walk that follows no journal.
 use Rattle.std.proofs.Common.{◌≡◌, ℕ, ◌+◌, ◌≤◌, Bool, true, false, List, [], ◌∷◌, ◌++◌, Option, Some, None, zero, suc, refl}
 use Rattle.std.proofs.Common.{sym, ap, subst, ◌∙◌, arith, append_assoc, length}
-use Rattle.std.specs.Prelude.{map, not, ◌&&◌, ◌||◌, ◌==◌, is_some, slice_get, if◌then◌else◌, IfSome}
+use Rattle.std.specs.Prelude.{map, not, ◌&&◌, ◌||◌, ◌==◌, is_some, if◌then◌else◌, IfSome}
 use Rattle.std.specs.List.{AllByRecursion, list_any}
 use Rattle.std.proofs.lemmas.Grind.{flat_map-append}
 use Rattle.std.proofs.lemmas.List.{append-nil, map-append}
@@ -15,9 +15,8 @@ use Rattle.dds_client_view.specs.Seen.{body, is_last}
 use Rattle.dds_client_view.specs.Seen.{answer_on, answers_in, is_busy}
 use Rattle.dds_cluster.specs.Trace.{adds, is_possible, next, replies_in, told_at}
 use Rattle.dds_cluster.specs.Turn.{turn}
-use Rattle.dds_cluster.specs.World.{World, brick_at}
+use Rattle.dds_cluster.specs.World.{brick_at}
 use Rattle.dds_cluster.specs.declared.step.Input.TheVariants as input
-use Rattle.dds_cluster.specs.declared.step.Message.{Message}
 use Rattle.dds_cluster.specs.declared.step.Step.{Step}
 use Rattle.dds_cluster.specs.declared.step.Step.TheVariants as step
 use Rattle.dds_cluster.specs.declared.trace.Asked.{Asked}
@@ -36,12 +35,13 @@ use Rattle.dds_transcript.specs.declared.report_line.ReportLine.TheVariants as r
 use Rattle.dds_trie.specs.Trie.{leaves_of}
 use Rattle.dds_walk.proofs.Along.{IsNoCall}
 use Rattle.dds_walk.proofs.Moves.{moves-over, moves-suc}
-use Rattle.dds_walk.proofs.Picked.{AreSteps, steps-append, steps-first, steps-picked}
+use Rattle.dds_walk.proofs.Picked.{steps-picked}
 use Rattle.dds_walk.proofs.Walked.{tries-alone}
-use Rattle.dds_walk.specs.Picking.{all_handles, begun, events, first_of, handles, node_at, posts}
+use Rattle.dds_walk.specs.Picking.{begun, events}
 use Rattle.dds_walk.specs.Walk.{Moved, after_event, event, event_by, has_event, kind_at, leaf_line, leaf_lines, left, left_of, line_done}
 use Rattle.dds_walk.specs.Walk.{moves, node_of, on_event, or_stays, picked_in, picks_in, played, reply_line, reply_lines, says, show_lines, tries}
 use Rattle.dds_walk.specs.declared.walk.Walk.{Walk}
+use Rattle.dds_walk.proofs.AlongSteps.{no-call-events}
 
 -- from one walk to a later one: what is printed on the way, and what is told; these calls are made
 pub record Prints (asks : List Asked) (w v : Walk) : Type 0 where
@@ -176,30 +176,6 @@ prints-tries w s none silent =
     subst (Prints [] w) (sym (tries-alone w s none))
     (prints-then [] w u (played u s) (prints-nothing w u none (gone ∙ sym none) refl refl refl)
     (prints-played [] u s gone (no-call-if u.trace s (is_possible u.trace s) silent)))
-
--- each event is no call
-no-call-posts : (b at : ℕ) (boxes : List (List Message)) → AreSteps IsNoCall (posts b at boxes)
-no-call-posts b at [] = tt
-no-call-posts b at (box ∷ boxes) =
-    steps-append IsNoCall (first_of (step.Post (node_at b at)) (slice_get box 0)) (posts b (at + 1) boxes)
-    (steps-first IsNoCall (step.Post (node_at b at)) (slice_get box 0) (λ e. tt)) (no-call-posts b (at + 1) boxes)
-
-no-call-handles : (b : ℕ) (from : NodeNo) (at : ℕ) (links : List (List Message)) → AreSteps IsNoCall (handles b from at links)
-no-call-handles b from at [] = tt
-no-call-handles b from at (l ∷ links) =
-    steps-append IsNoCall (first_of (step.Handle (node_at b at) from) (slice_get l 0)) (handles b from (at + 1) links)
-    (steps-first IsNoCall (step.Handle (node_at b at) from) (slice_get l 0) (λ e. tt)) (no-call-handles b from (at + 1) links)
-
-no-call-all-handles : (b at : ℕ) (rows : List (List (List Message))) → AreSteps IsNoCall (all_handles b at rows)
-no-call-all-handles b at [] = tt
-no-call-all-handles b at (row ∷ rows) =
-    steps-append IsNoCall (handles b (node_at b at) 0 row) (all_handles b (at + 1) rows) (no-call-handles b (node_at b at) 0 row)
-    (no-call-all-handles b (at + 1) rows)
-
-no-call-events : (w : World) → AreSteps IsNoCall (events w)
-no-call-events w =
-    steps-append IsNoCall (posts (length w.bricks) 0 w.outboxes) (all_handles (length w.bricks) 0 w.links) (no-call-posts (length w.bricks) 0 w.outboxes)
-    (no-call-all-handles (length w.bricks) 0 w.links)
 
 -- picked events
 prints-event : (w : Walk) (p : Option Step) → w.rest ≡ None → IfSome p IsNoCall → Prints [] w (or_stays w (event_by w p))

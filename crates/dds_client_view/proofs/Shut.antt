@@ -1,45 +1,17 @@
 -- A call that was answered is never open again.
-use Rattle.std.proofs.Common.{◌≡◌, ℕ, ◌<◌, inl, inr, Option, Some, None, List, [], ◌∷◌, refl, sym, ap, ◌∙◌, subst}
-use Rattle.std.proofs.lemmas.Bool.{cases_eq}
-use Rattle.std.proofs.lemmas.Option.{slice_get_within}
+use Rattle.std.proofs.Common.{◌≡◌, ℕ, List, [], ◌∷◌, refl}
 use Rattle.std.specs.List.{AllByRecursion}
-use Rattle.std.specs.Prelude.{slice_get, slice_set}
+use Rattle.std.specs.Prelude.{slice_get}
 use Rattle.dds_base.specs.declared.number.CallNo.{CallNo}
 use Rattle.dds_base.specs.declared.op.Reply.{Reply}
 use Rattle.dds_cluster.specs.Trace.{all_closed, closed_by, closes, told_at}
 use Rattle.dds_cluster.specs.declared.trace.Caller.{Caller}
 use Rattle.dds_cluster.specs.declared.trace.Told.{Told}
 use Rattle.dds_core.proofs.Lists.{all-map}
-use Rattle.dds_net.proofs.Nodes.{get-set-other, get-set-same}
-use Rattle.dds_once.proofs.Shut.{IsShut}
+use Rattle.dds_once.proofs.Shut.{IsShut, all-closed-shut, answered-shut}
 use Rattle.dds_once.proofs.Used.{IsUsed, closed-used}
 use Rattle.dds_states.specs.declared.turn.Replied.{Replied}
 use Rattle.dds_states.specs.declared.turn.Replied.TheVariants as replied
-
-closes-shut : (cs : List Caller) (caller k : ℕ) (call : CallNo) (o : Option Caller) → slice_get cs caller ≡ o → IsShut cs k call
-    → IsShut (closes cs caller o) k call
-closes-shut cs caller k call None e h = h
-closes-shut cs caller k call (Some c) e h = elim (cases_eq caller k) [
-  | inl f ↦
-      let d : Caller = record c { call = None } in
-      let same : c ≡ h.who = (let two : Some c ≡ Some h.who = sym e ∙ ap (slice_get cs) f ∙ h.there in cc) in
-      record {
-        who = d;
-        there = ap (slice_get (slice_set cs caller d)) (sym f) ∙ get-set-same cs caller d (slice_get_within cs caller c e);
-        past = subst (λ (y : Caller). call.0 < y.least) (sym same) h.past;
-        shut = λ i. cc;
-      }
-  | inr ne ↦
-      record { who = h.who; there = get-set-other cs caller k (record c { call = None }) ne ∙ h.there; past = h.past; shut = h.shut }
-]
-
-closed-shut : (cs : List Caller) (r : Replied) (k : ℕ) (call : CallNo) → IsShut cs k call → IsShut (closed_by cs r) k call
-closed-shut cs (replied.Call read caller at reply) k call h = closes-shut cs caller k call (slice_get cs caller) refl h
-closed-shut cs (replied.Order reply) k call h = h
-
-all-closed-shut : (cs : List Caller) (rs : List Replied) (k : ℕ) (call : CallNo) → IsShut cs k call → IsShut (all_closed cs rs) k call
-all-closed-shut cs [] k call h = h
-all-closed-shut cs (r ∷ rs) k call h = all-closed-shut (closed_by cs r) rs k call (closed-shut cs r k call h)
 
 -- what is so of each call that a turn answers, and of its answer
 abbrev pub ReplySays : (ℕ → CallNo → Reply → Type 0) → Replied → Type 0
@@ -56,20 +28,6 @@ told-says P Q place [] f h = tt
 told-says P Q place (replied.Call read caller call reply ∷ rs) f h =
     (f (record { place = place; read = read; caller = caller; call = call; reply = reply }) refl h.0, told-says P Q place rs f h.1)
 told-says P Q place (replied.Order reply ∷ rs) f h = told-says P Q place rs f h.1
-
--- an answer closes its call
-answered-shut : (cs : List Caller) (caller : ℕ) (call : CallNo) (o : Option Caller) → slice_get cs caller ≡ o → IsUsed cs caller call
-    → IsShut (closes cs caller o) caller call
-answered-shut cs caller call None e h = let no : None ≡ Some h.who = sym e ∙ h.there in cc
-answered-shut cs caller call (Some c) e h =
-    let d : Caller = record c { call = None } in
-    let same : c ≡ h.who = (let two : Some c ≡ Some h.who = sym e ∙ h.there in cc) in
-    record {
-      who = d;
-      there = get-set-same cs caller d (slice_get_within cs caller c e);
-      past = subst (λ (y : Caller). call.0 < y.least) (sym same) h.past;
-      shut = λ i. cc;
-    }
 
 pub replies-shut : (Q : ℕ → CallNo → Reply → Type 0) (cs : List Caller) (rs : List Replied)
     → AllByRecursion (ReplySays (λ k call x. IsUsed cs k call × Q k call x)) rs

@@ -1,8 +1,8 @@
 use Rattle.std.proofs.Common.{◌≡◌, ℕ, zero, suc, ◌+◌, Bool, true, false, not, cond, Some, List, [], ◌∷◌, ◌++◌, drop, refl, sym, ap, ◌∙◌, subst}
 use Rattle.std.proofs.lemmas.Bool.{and_parts, both_ways}
-use Rattle.std.proofs.lemmas.List.{append-nil, append_assoc}
+use Rattle.std.proofs.lemmas.List.{append_assoc}
 use Rattle.std.specs.List.{find}
-use Rattle.std.specs.Prelude.{slice_get, take, if◌then◌else◌}
+use Rattle.std.specs.Prelude.{slice_get, take}
 use Rattle.dds_answered.proofs.Flags.{letter-txn}
 use Rattle.dds_answered.proofs.Having.{Has, has-later}
 use Rattle.dds_attempts.proofs.Claim.{PointIs}
@@ -16,16 +16,14 @@ use Rattle.dds_calls.proofs.Answered.{AnsweredBy, IsOf, answered, at_input, at_l
 use Rattle.dds_calls.proofs.Asked.{NodeIs, WasAsked, get-front, one-asked}
 use Rattle.dds_calls.proofs.Entries.{run-asked}
 use Rattle.dds_calls.proofs.Requests.{RequestIs}
-use Rattle.dds_calls.proofs.Told.{IsGiven, asked-from}
+use Rattle.dds_calls.proofs.Told.{IsGiven, asked-from, made-from}
 use Rattle.dds_calls.proofs.Treats.{Answers}
 use Rattle.dds_cluster.specs.Lists.{is_update_of}
-use Rattle.dds_cluster.specs.Trace.{adds, all_kept, is_possible, is_run, next, run_of, start, trace_from}
-use Rattle.dds_cluster.specs.Turn.{turn}
+use Rattle.dds_cluster.specs.Trace.{is_run, next, run_of, start}
 use Rattle.dds_cluster.specs.declared.step.Step.{Step}
 use Rattle.dds_cluster.specs.declared.trace.Asked.{Asked}
 use Rattle.dds_cluster.specs.declared.trace.Made.{Made}
 use Rattle.dds_cluster.specs.declared.trace.Told.{Told}
-use Rattle.dds_cluster.specs.declared.trace.Trace.{Trace}
 use Rattle.dds_core.proofs.CallTurns.{Concerns, same-is}
 use Rattle.dds_core.proofs.Lists.{all-is}
 use Rattle.dds_core.specs.LibraryTurn.{call_row}
@@ -125,28 +123,6 @@ module _ (z : Sizes) (h : History) (n : Net) (b : Book × talk.Books) (below : B
       }
 
 -- the points of a run only grow
-record GrewBy (xs ys : List Made) : Type 0 where
-  more : List Made
-  is : ys ≡ xs ++ more
-
-next-made : (t : Trace) (x : Step) → GrewBy t.made (next t x).made
-next-made t x = by (is_possible t x)
-  where
-    by : (b : Bool) → GrewBy t.made (if b then adds t x (turn t.steps t.world x) else record t { steps = t.steps + 1 }).made
-    by true = record { more = all_kept t.made (turn t.steps t.world x).made; is = refl }
-    by false = record { more = []; is = sym (append-nil t.made) }
-
-from-made : (t : Trace) (more : List Step) → GrewBy t.made (trace_from t more).made
-from-made t [] = record { more = []; is = sym (append-nil t.made) }
-from-made t (x ∷ more) =
-    let one = next-made t x in
-    let rest = from-made (next t x) more in
-    record { more = one.more ++ rest.more; is = rest.is ∙ ap (λ xs. xs ++ rest.more) one.is ∙ append_assoc t.made one.more rest.more }
-
-made-from : (t : Trace) (front more : List Step) → GrewBy (trace_from t front).made (trace_from t (front ++ more)).made
-made-from t [] more = from-made t more
-made-from t (x ∷ front) more = made-from (next t x) front more
-
 has-in : (o : OpeningOf) (front rest journal : List Step) (P : Made → Type 0) → front ++ rest ≡ journal → Has (run_of o front).made P
     → Has (run_of o journal).made P
 has-in o front rest journal P whole w =

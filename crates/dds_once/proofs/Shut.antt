@@ -46,7 +46,7 @@ closed-shut : (cs : List Caller) (r : Replied) (k : ℕ) (call : CallNo) → IsS
 closed-shut cs (replied.Call read caller at reply) k call h = closes-shut cs caller k call (slice_get cs caller) refl h
 closed-shut cs (replied.Order reply) k call h = h
 
-all-closed-shut : (cs : List Caller) (rs : List Replied) (k : ℕ) (call : CallNo) → IsShut cs k call → IsShut (all_closed cs rs) k call
+pub all-closed-shut : (cs : List Caller) (rs : List Replied) (k : ℕ) (call : CallNo) → IsShut cs k call → IsShut (all_closed cs rs) k call
 all-closed-shut cs [] k call h = h
 all-closed-shut cs (r ∷ rs) k call h = all-closed-shut (closed_by cs r) rs k call (closed-shut cs r k call h)
 
@@ -100,7 +100,7 @@ told-says P place (replied.Call read caller call reply ∷ rs) h = (h.0, told-sa
 told-says P place (replied.Order reply ∷ rs) h = told-says P place rs h.1
 
 -- an answer closes its call
-answered-shut : (cs : List Caller) (caller : ℕ) (call : CallNo) (o : Option Caller) → slice_get cs caller ≡ o → IsUsed cs caller call
+pub answered-shut : (cs : List Caller) (caller : ℕ) (call : CallNo) (o : Option Caller) → slice_get cs caller ≡ o → IsUsed cs caller call
     → IsShut (closes cs caller o) caller call
 answered-shut cs caller call None e h = let no : None ≡ Some h.who = sym e ∙ h.there in cc
 answered-shut cs caller call (Some c) e h =

@@ -120,7 +120,7 @@ call-made w caller call s rest a b =
     b
 
 -- a caller is there
-caller-there : (cs : List Caller) (ns : List ℕ) (i : ℕ) → AreCounted cs ns → i < length ns → slice_get cs i ≡ None → ⊥
+pub caller-there : (cs : List Caller) (ns : List ℕ) (i : ℕ) → AreCounted cs ns → i < length ns → slice_get cs i ≡ None → ⊥
 caller-there [] [] i a l e = omega (arith, l)
 caller-there [] (n ∷ ns) i a l e = a
 caller-there (c ∷ cs) [] i a l e = a

@@ -84,7 +84,7 @@ no-call-all-handles b at (row ∷ rows) =
     steps-append IsNoCall (handles b (node_at b at) 0 row) (all_handles b (at + 1) rows) (no-call-handles b (node_at b at) 0 row)
     (no-call-all-handles b (at + 1) rows)
 
-no-call-events : (w : World) → AreSteps IsNoCall (events w)
+pub no-call-events : (w : World) → AreSteps IsNoCall (events w)
 no-call-events w =
     steps-append IsNoCall (posts (length w.bricks) 0 w.outboxes) (all_handles (length w.bricks) 0 w.links) (no-call-posts (length w.bricks) 0 w.outboxes)
     (no-call-all-handles (length w.bricks) 0 w.links)

@@ -124,7 +124,7 @@ no-call : (c : Option CallNo) → is_some c ≡ false → is_none c ≡ true
 no-call None e = refl
 no-call (Some c) e = absurd (cc)
 
-call-possible : (c : Caller) (call : CallNo) → is_some c.call ≡ false → c.least ≤ call.0 → may_call (Some c) c.library call ≡ true
+pub call-possible : (c : Caller) (call : CallNo) → is_some c.call ≡ false → c.least ≤ call.0 → may_call (Some c) c.library call ≡ true
 call-possible c call free low =
     let none : is_none c.call ≡ true = no-call c.call free in
     grind (arith, nat_tests, none, low)
