@@ -1,4 +1,4 @@
-use Rattle.std.proofs.Common.{◌≡◌, ℕ, zero, suc, ◌+◌, ◌≤◌, true, false, Option, Some, None, List, take, drop, inl, refl, sym, ap, ◌∙◌, subst}
+use Rattle.std.proofs.Common.{◌≡◌, ℕ, ◌≤◌, true, false, Some, None, List, take, drop, inl, refl, sym, ap, ◌∙◌, subst}
 use Rattle.std.specs.Prelude.{slice_get}
 use Rattle.dds_base.specs.Number.{Txn}
 use Rattle.dds_base.specs.Op.{is_get}
@@ -8,15 +8,14 @@ use Rattle.dds_books.proofs.Booking.{listed-within}
 use Rattle.dds_books.specs.Books.{Book, Entry, IsBooked, IsWithin, LibraryListed, NodeListed, booked}
 use Rattle.dds_books.specs.Calls.{LibraryIs}
 use Rattle.dds_cluster.proofs.Sizes.{sized-start}
-use Rattle.dds_cluster.specs.Trace.{is_run, new_callers, run_of, start}
+use Rattle.dds_cluster.specs.Trace.{is_run, run_of, start}
 use Rattle.dds_cluster.specs.declared.step.Step.{Step}
-use Rattle.dds_cluster.specs.declared.trace.Caller.{Caller}
 use Rattle.dds_cluster.specs.declared.trace.Made.{Made}
 use Rattle.dds_commit.proofs.Knot.{All, all-kept}
 use Rattle.dds_commit.proofs.Start.{start-all}
 use Rattle.dds_core.proofs.Lists.{all-is}
 use Rattle.dds_net.proofs.Nodes.{brick-node, library-node}
-use Rattle.dds_net.proofs.Opening.{IsNew, new_a_brick, new_a_library, no_node, start-node}
+use Rattle.dds_net.proofs.Opening.{IsNew, new_a_brick, new_a_library, no_node, start-node, no-call-open}
 use Rattle.dds_net.proofs.Prefixes.{Later, run-drop, run-split, run-take}
 use Rattle.dds_net.proofs.Runs.{Books, IsKept, Ran, net-built, run-keeps, sized-run}
 use Rattle.dds_net.specs.Event.{History, history_of}
@@ -76,22 +75,11 @@ new-commits o k x (no_node e) = subst (LibraryIs (AreCommitting talk.no_books)) 
 new-commits o k x (new_a_brick e) = subst (LibraryIs (AreCommitting talk.no_books)) (sym e) tt
 new-commits o k x (new_a_library high e) = subst (LibraryIs (AreCommitting talk.no_books)) (sym e) (λ live. tt)
 
-pub none-open : (libraries k n i : ℕ) (x : Caller) (call : CallNo) → slice_get (new_callers libraries k n) i ≡ Some x → x.call ≡ Some call → ⊥
-none-open libraries zero n i x call e f = cc
-none-open libraries (suc k) n zero x call e f =
-    let no : None ≡ Some call = ap call_then e ∙ f in
-    cc
-  where
-    call_then : Option Caller → Option CallNo
-    call_then None = None
-    call_then (Some y) = y.call
-none-open libraries (suc k) n (suc i) x call e f = none-open libraries k (n + 1) i x call e f
-
 pub start-last : (o : OpeningOf) → AreLast (sizes_of o) (history_of (start o)) (net (sizes_of o) (start o).world) (λ t. None) talk.no_books
 start-last o =
     record {
       pending = λ k. new-pending o k _ (start-node o k);
-      callers = λ k x call e f. absurd (none-open o.libraries o.callers 0 k x call e f);
+      callers = λ k x call e f. absurd (no-call-open o.libraries o.callers 0 k x call e f);
       entries = λ u f e. cc;
       newest = λ k. new-newest o k _ (start-node o k);
       lists = λ t. inl refl;

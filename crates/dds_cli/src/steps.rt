@@ -3,14 +3,14 @@
 ghost use Rattle.std.specs.Prelude.{◌≡◌, ◌≤◌, IfOk, length};
 ghost use Rattle.dds_walk.specs.Walk.{transcript};
 ghost use Rattle.dds_ends.specs.End.{status_of};
-ghost use Rattle.dds_cli.specs.Ended.{IsEndOf, IsRunOf};
+ghost use Rattle.dds_cli.specs.Ended.{IsEndOf, IsRunOf, IsRunWhole};
 ghost use Rattle.dds_cli.specs.Ending.{IsEndOfScript, IsEndOfBytes};
 
 use crate::ended::Ended;
 use dds_base::memory::Memory;
 use dds_base::sink::Sink;
 use dds_base::source::{ReadEnd, Source, read_all};
-use dds_client_view::laws::clients_see_one_history;
+use dds_client_view::laws::{clients_see_one_history, quiet_lines_are_answered};
 use dds_ends::command::{BYTES, LINES, is_step, write_transcript};
 use dds_ends::end::End;
 use dds_law_config::laws::run_stands;
@@ -23,6 +23,26 @@ use std::alloc::Global;
 /// Carries out a command. The words are to be the one word `step`; then the source gives a script, which is run, and the
 /// sink takes its transcript. It always returns.
 pub fn run_steps<S: Source, K: Sink>(
+    alloc: Global,
+    words: &[String],
+    source: &mut S,
+    sink: &mut K,
+) -> Ended
+    ensures status { result.status ≡ status_of result.end }
+    ensures end { IsEndOf words.now
+        (record { left = S.left source.old; source_faults = S.faults source.old; written = K.written sink.old; sink_faults = K.faults sink.old })
+        (record { left = S.left source.new; source_faults = S.faults source.new; written = K.written sink.new; sink_faults = K.faults sink.new })
+        result.journal result.end }
+    ensures whole { IsRunWhole words.now
+        (record { left = S.left source.old; source_faults = S.faults source.old; written = K.written sink.old; sink_faults = K.faults sink.old })
+        (record { left = S.left source.new; source_faults = S.faults source.new; written = K.written sink.new; sink_faults = K.faults sink.new })
+        result.end }
+{
+    run_command(alloc, words, source, sink)
+}
+
+/// Carries out a command, as above.
+fn run_command<S: Source, K: Sink>(
     alloc: Global,
     words: &[String],
     source: &mut S,
@@ -79,5 +99,6 @@ fn run(alloc: Global, script: &Script) -> Result<Walked, Memory>
     let _ranges = script.opening().ranges();
     run_stands();
     clients_see_one_history();
+    quiet_lines_are_answered();
     walk_script(alloc, script)
 }

@@ -3,7 +3,7 @@ use Rattle.std.proofs.Common.{◌≡◌, ℕ, ◌+◌, ◌<◌, ◌≤◌, ◌++
 use Rattle.std.specs.List.{AllByRecursion}
 use Rattle.std.specs.Prelude.{slice_get}
 use Rattle.dds_answered.proofs.Flags.{own-calls}
-use Rattle.dds_attempts.proofs.Runs.{Stands, none-open, stands-kept}
+use Rattle.dds_attempts.proofs.Runs.{Stands, stands-kept}
 use Rattle.dds_base.specs.Number.{Txn}
 use Rattle.dds_base.specs.Op.{is_get}
 use Rattle.dds_base.specs.declared.number.CallNo.{CallNo}
@@ -19,6 +19,7 @@ use Rattle.dds_client_view.proofs.Asked.{OpenIsAsked, asked-last, asked-more, op
 use Rattle.dds_client_view.proofs.Order.{IsAt}
 use Rattle.dds_cluster.specs.Lists.{is_asked}
 use Rattle.dds_client_view.proofs.Once.{OtherReply, OtherTold, no-calls-apart, one-answer-apart, told-apart, turn-apart}
+use Rattle.dds_net.proofs.Opening.{no-call-open}
 use Rattle.dds_net.proofs.Pairwise.{Pairwise, pairs-append}
 use Rattle.dds_client_view.proofs.Shut.{ReplySays, replies-shut, told-says}
 use Rattle.dds_client_view.specs.Client.{is_loss}
@@ -257,7 +258,7 @@ run-ended o journal h run =
       is = (
         first.is,
         record {
-          open_calls = λ k x call e f. absurd (none-open o.libraries o.callers 0 k x call e f);
+          open_calls = λ k x call e f. absurd (no-call-open o.libraries o.callers 0 k x call e f);
           apart = tt;
           places = tt;
           ends = tt;

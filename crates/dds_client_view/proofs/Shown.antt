@@ -1,8 +1,8 @@
--- The lines of a script with what they printed.
-use Rattle.std.proofs.Common.{◌≡◌, ℕ, ◌+◌, ◌≤◌, List, [], ◌∷◌, ◌++◌, Option, Some, None, zero, suc, refl}
+-- The lines of a script with what they printed, and its lines `quiet`.
+use Rattle.std.proofs.Common.{◌≡◌, ℕ, ◌+◌, ◌≤◌, true, List, [], ◌∷◌, ◌++◌, Option, Some, None, zero, suc, refl}
 use Rattle.std.proofs.Common.{sym, ap, subst, ◌∙◌, append_assoc, length}
-use Rattle.std.specs.Prelude.{map, not, replicate, slice_index_or, take}
-use Rattle.std.specs.List.{AllByRecursion}
+use Rattle.std.specs.Prelude.{drop, map, not, replicate, slice_get, slice_index_or, take}
+use Rattle.std.specs.List.{AllByRecursion, list_any}
 use Rattle.std.proofs.lemmas.List.{append-nil, length-replicate}
 use Rattle.std.proofs.lemmas.List.Elements.{filter-append}
 use Rattle.dds_base.specs.declared.number.CallNo.{CallNo}
@@ -12,23 +12,31 @@ use Rattle.dds_client_view.proofs.Over.{are-over}
 use Rattle.dds_client_view.proofs.Sees.{have-ops}
 use Rattle.dds_client_view.proofs.Order.{IsInOrder, run-in-order}
 use Rattle.dds_client_view.proofs.Shows.{Shows}
-use Rattle.dds_client_view.specs.Law.{IsShown, prints}
+use Rattle.dds_client_view.proofs.Quiet.{AreStopped, calls-over, lines-stop, range-seen, replies-silent, seen-at}
+use Rattle.dds_client_view.specs.Law.{AnswersWhereQuiet, IsShown, QuietLinesAreAnswered, prints, printed_at, steps_to}
+use Rattle.dds_client_view.specs.Quiet.{IsOpenAtStopped, QuietMeansAnswered, is_quiet}
 use Rattle.dds_client_view.specs.Seen.{body, is_last}
 use Rattle.dds_client_view.proofs.Printed.{seen_from}
-use Rattle.dds_client_view.specs.Seen.{SeenLine, printed_by}
+use Rattle.dds_client_view.specs.Seen.{SeenLine, calls_in, printed_by}
 use Rattle.dds_cluster.specs.Trace.{run_of}
 use Rattle.dds_cluster.specs.declared.step.TheConstants.{EVENTS}
 use Rattle.dds_cluster.specs.declared.trace.Caller.{Caller}
+use Rattle.dds_cluster.specs.declared.trace.Trace.{Trace}
 use Rattle.dds_script.specs.Opening.{IsOpening, IsScript, OpeningOf, ScriptOf, ranges_of}
 use Rattle.dds_script.specs.Ranges.{IsInRanges}
 use Rattle.dds_script.specs.declared.line.Line.{Line}
+use Rattle.dds_script.specs.declared.line.Line.TheVariants as line
 use Rattle.dds_transcript.specs.declared.report_line.OrderKind.{OrderKind}
 use Rattle.dds_transcript.specs.declared.report_line.ReportLine.{ReportLine}
 use Rattle.dds_transcript.specs.declared.report_line.ReportLine.TheVariants as report
 use Rattle.dds_walk.proofs.AlongLines.{lines-alone}
-use Rattle.dds_walk.proofs.Walked.{IsWalked, walked-first, walked-line}
+use Rattle.dds_walk.proofs.Quiet.{quiet-world}
+use Rattle.dds_walk.proofs.Stops.{stops-said}
+use Rattle.dds_walk.proofs.Walked.{IsWalked, steps-run, walked-first, walked-line}
 use Rattle.dds_walk.specs.Walk.{ended, first_walk, last_lines, line_done, lines_done, open_call_of, open_calls, open_order_of, open_orders, steps}
 use Rattle.dds_walk.specs.declared.walk.Walk.{Walk}
+use Rattle.dds_world.specs.Places.{reached}
+use Rattle.dds_world.specs.Quiet.{Quiet, QuietAnswers}
 use Rattle.dds_world.specs.Stands.{Stands, history}
 
 -- nothing was printed yet
@@ -119,9 +127,53 @@ body-printed script opening h =
     let shows = shows-all EVENTS script opening h in
     ap body (sym (lines-alone EVENTS script opening.ranges h)) ∙ body-ended v shows.plain ∙ sym shows.printed
 
+-- so many of a script's lines, and the walk behind them
+abbrev first_lines : ScriptOf → ℕ → ScriptOf
+first_lines script n = record { opening = script.opening; lines = take n script.lines }
+
+abbrev walk_to : ScriptOf → ℕ → Walk
+walk_to script n = lines_done EVENTS (first_walk script None) (take n script.lines)
+
+walked-to : (script : ScriptOf) (n : ℕ) → IsOpening script.opening → AllByRecursion (IsInRanges (ranges_of script.opening)) script.lines
+    → IsWalked script.opening (walk_to script n)
+walked-to script n opening h =
+    let o = script.opening in
+    walked-all o EVENTS (first_walk script None) (take n script.lines) opening.ranges.bricks (all-take (IsInRanges (ranges_of o)) n script.lines h)
+    (walked-first script)
+
+-- behind a line `quiet` that printed so nothing is on its way
+quiet-at : (script : ScriptOf) (n : ℕ) → IsOpening script.opening → AllByRecursion (IsInRanges (ranges_of script.opening)) script.lines
+    → slice_get script.lines n ≡ Some line.Quiet → list_any is_quiet (drop (length (walk_to script n).lines) (walk_to script (n + 1)).lines) ≡ true
+    → Quiet (reached script.opening (steps_to script (n + 1)))
+quiet-at script n opening h at printed =
+    subst (λ (t : Trace). Quiet t.world) (walked-to script (n + 1) opening h).trace
+    (quiet-world EVENTS is_quiet script n replies-silent refl at printed)
+
+-- and each call above it that is still open is of a library that a line stopped
+quiet-answered : (script : ScriptOf) → IsOpening script.opening → AllByRecursion (IsInRanges (ranges_of script.opening)) script.lines
+    → AnswersWhereQuiet script → QuietMeansAnswered script.opening (seen_from EVENTS (first_walk script None) script.lines)
+quiet-answered script opening h answers = record {
+  answered = λ n s at quiet.
+      let o = script.opening in
+      let first = first_walk script None in
+      let some = first_lines script (n + 1) in
+      let ls = take (n + 1) script.lines in
+      let seen = seen_from EVENTS first ls in
+      let here = seen-at EVENTS first script.lines n s at in
+      let ranges = all-take (IsInRanges (ranges_of o)) (n + 1) script.lines h in
+      let walked = walked-to script (n + 1) opening h in
+      let still = quiet-at script n opening h (here.0 ∙ ap Some quiet.line)
+      (subst (λ (l : List ReportLine). list_any is_quiet l ≡ true) here.1 quiet.printed) in
+      let stops = stops-said (AreStopped seen) EVENTS some (lines-stop seen ls (same-lines EVENTS first ls)) in
+      subst (λ (x : List SeenLine). AllByRecursion (IsOpenAtStopped o x) (calls_in x)) (seen-take EVENTS first (n + 1) script.lines)
+      (calls-over o seen (walk_to script (n + 1)) opening walked.run walked.trace stops (range-seen o EVENTS first ls ranges)
+      (shows-all EVENTS some opening ranges) (answers (n + 1) still));
+}
+
 -- of a script whose run stands
-pub is-shown : (script : ScriptOf) → IsOpening script.opening → IsScript script → Stands (run_of script.opening (steps script)) → IsShown script
-is-shown script opening h stands =
+pub is-shown : (script : ScriptOf) → IsOpening script.opening → IsScript script → Stands (run_of script.opening (steps script)) → AnswersWhereQuiet script
+    → IsShown script
+is-shown script opening h stands answers =
     let o = script.opening in
     let r = opening.ranges in
     let first = first_walk script None in
@@ -142,4 +194,26 @@ is-shown script opening h stands =
       };
       sees = client-sees seen v shows in_order stand (are-over v.trace ended stand.entries_are_calls (have-ops v.trace.asked shows.apart));
       fits = answers-fit seen v shows (all-told v ended) ended.apart;
+      quiet = quiet-answered script opening h.lines answers;
     }
+
+-- what a script's lines `quiet` come to
+body-lines : (script : ScriptOf) → IsOpening script.opening → AllByRecursion (IsInRanges (ranges_of script.opening)) script.lines
+    → body (prints script.opening script.lines) ≡ (lines_done EVENTS (first_walk script None) script.lines).lines
+body-lines script opening h = body-printed script opening h ∙ (shows-all EVENTS script opening h).printed
+
+pub quiet-lines : QuietLinesAreAnswered
+quiet-lines script opening h answers = λ n at.
+    let o = script.opening in
+    let lines_to = λ (k : ℕ). body-lines (first_lines script k) opening (all-take (IsInRanges (ranges_of o)) k script.lines h.lines) in
+    let printed : printed_at script n ≡ drop (length (walk_to script n).lines) (walk_to script (n + 1)).lines =
+    ap (λ (l : List ReportLine). drop (length l) (body (prints o (take (n + 1) script.lines)))) (lines_to n)
+    ∙ ap (drop (length (walk_to script n).lines)) (lines_to (n + 1)) in
+    let still = quiet-at script n opening h.lines at.line (subst (λ (l : List ReportLine). list_any is_quiet l ≡ true) printed at.printed) in
+    record { quiet = still; answered = answers (n + 1) still }
+
+-- where each quiet world of a run is answered, those of a script are
+pub where-quiet : QuietAnswers → (script : ScriptOf) → IsOpening script.opening → IsScript script → AnswersWhereQuiet script
+where-quiet quiet script opening h = λ n.
+    quiet script.opening (steps_to script n) opening
+    (steps-run EVENTS (first_lines script n) opening.ranges (all-take (IsInRanges (ranges_of script.opening)) n script.lines h.lines))

@@ -1,3 +1,4 @@
 pub mod Seen
 pub mod Client
+pub mod Quiet
 pub mod Law

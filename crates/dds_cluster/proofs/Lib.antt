@@ -3,3 +3,4 @@ pub mod Handling
 pub mod Frames
 pub mod Sizes
 pub mod Keys
+pub mod KeyLists

@@ -33,7 +33,7 @@ impl Model for AskedList {
 
     ghost view = { λ a. a.calls.items };
 
-    ghost invariant = { λ a. AreKeys call_cmp (λ name x. is_call_of name.caller name.call x) a.calls.items a.calls.keys };
+    ghost invariant = { λ a. AreKeys call_cmp (λ name x. is_call_of name.caller name.call x) a.calls.items a.calls.rising.items a.calls.others };
 }
 
 impl AskedList {
@@ -61,7 +61,7 @@ impl AskedList {
     pub fn is_asked(&self, caller: CallerNo, call: CallNo) -> bool
         ensures { result ≡ is_asked self.now caller call }
     {
-        self.calls.keys.contains(&CallName { caller, call })
+        self.calls.has(&CallName { caller, call })
     }
 
     pub fn as_slice(&self) -> &[Asked]

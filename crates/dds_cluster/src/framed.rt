@@ -10,6 +10,7 @@ use dds_base::number::NodeNo;
 use dds_frames::decode::decode;
 use dds_frames::encode::encode;
 use dds_frames::frame::Frame;
+use dds_letters::letter::Letter;
 use std::alloc::Global;
 use std::marker::Model;
 
@@ -38,8 +39,8 @@ impl Model for Framed {
 
 impl Framed {
     /// Writes the message's letter as a frame.
-    pub fn of(alloc: Global, message: Message) -> Result<Framed, Memory>
-        ensures { IfOk result (λ framed. framed ≡ message) }
+    pub fn of(alloc: Global, message: &Message) -> Result<Framed, Memory>
+        ensures { IfOk result (λ framed. framed ≡ message.now) }
     {
         let frame = encode(alloc, &message.letter)?;
         Ok(Framed {
@@ -57,15 +58,11 @@ impl Framed {
     }
 
     /// Reads the frame's letter.
-    pub fn message(self, alloc: Global) -> Result<Message, Memory>
-        ensures { IfOk result (λ message. message ≡ self) }
+    pub fn letter(&self, alloc: Global) -> Result<Letter, Memory>
+        ensures { IfOk result (λ letter. letter ≡ self.now.letter) }
     {
         match decode(alloc, self.frame.as_slice()) {
-            Ok((letter, _)) => Ok(Message {
-                number: self.number,
-                to: self.to,
-                letter,
-            }),
+            Ok((letter, _)) => Ok(letter),
             Err(_) => Err(Memory),
         }
     }

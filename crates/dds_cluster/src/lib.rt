@@ -4,7 +4,7 @@
 pub mod asked_list;
 pub mod cluster;
 pub mod framed;
-pub mod keyed;
+mod keyed;
 pub mod links;
 pub mod made_list;
 pub mod opening_world;

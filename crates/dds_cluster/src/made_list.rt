@@ -30,7 +30,7 @@ impl Model for MadeList {
 
     ghost view = { λ a. a.points.items };
 
-    ghost invariant = { λ a. AreKeys txn_cmp is_update_of a.points.items a.points.keys };
+    ghost invariant = { λ a. AreKeys txn_cmp is_update_of a.points.items a.points.rising.items a.points.others };
 }
 
 impl MadeList {
@@ -55,7 +55,7 @@ impl MadeList {
     pub fn is_applied(&self, txn: TxnNo) -> bool
         ensures { result ≡ is_applied self.now txn }
     {
-        self.points.keys.contains(&txn)
+        self.points.has(&txn)
     }
 
     pub fn as_slice(&self) -> &[Made]

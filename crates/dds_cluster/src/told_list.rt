@@ -27,7 +27,7 @@ impl Model for ToldList {
 
     ghost view = { λ a. a.answers.items };
 
-    ghost invariant = { λ a. AreKeys txn_cmp (λ txn r. is_read_of txn r.read) a.answers.items a.answers.keys };
+    ghost invariant = { λ a. AreKeys txn_cmp (λ txn r. is_read_of txn r.read) a.answers.items a.answers.rising.items a.answers.others };
 }
 
 impl ToldList {
@@ -52,7 +52,7 @@ impl ToldList {
     pub fn is_answer(&self, txn: TxnNo) -> bool
         ensures { result ≡ is_answer self.now txn }
     {
-        self.answers.keys.contains(&txn)
+        self.answers.has(&txn)
     }
 
     pub fn as_slice(&self) -> &[Told]

@@ -111,8 +111,8 @@ impl Cluster {
         let Some(framed) = self.take(node, from) else {
             return Ok(Happened::nothing(self.alloc));
         };
-        let message = framed.message(self.alloc)?;
-        self.does(at, node, from, &message.letter)
+        let letter = framed.letter(self.alloc)?;
+        self.does(at, node, from, &letter)
     }
 
     /// A node does what its rows say of a letter.
@@ -143,11 +143,12 @@ impl Cluster {
         if place >= self.outboxes.len() {
             return Ok(Happened::nothing(self.alloc));
         }
-        let Some(message) = self.outboxes[place].pop() else {
+        let Some(message) = self.outboxes[place].at(0) else {
             return Ok(Happened::nothing(self.alloc));
         };
         let receiver = self.place(message.to);
         let framed = Framed::of(self.alloc, message)?;
+        self.outboxes[place].pop();
         self.links[place].push(receiver, framed)?;
         Ok(Happened::nothing(self.alloc))
     }

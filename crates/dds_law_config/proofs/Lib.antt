@@ -4,3 +4,4 @@ pub mod Standing
 pub mod Values
 pub mod Runs
 pub mod Lost
+pub mod Quiet

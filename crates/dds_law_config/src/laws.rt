@@ -2,11 +2,19 @@
 
 ghost use Rattle.dds_law_config.specs.Law.{AllRunsStand, FixedRunsStand, KeptMembersLoseNothing};
 ghost use Rattle.dds_law_config.specs.Values.{BoundJoinsStayFrozen, JoinsAlwaysCopy, ValuesAreKept};
+ghost use Rattle.dds_world.specs.Quiet.{QuietAnswers};
 
 /// Of every run of every opening, whatever its interleaving of calls, stops, splits and joins: its calls stand in one legal history of one map;
 /// each answer other than a result has its cause; and the nine facts of reached worlds hold after each beginning of it.
 pub fn run_stands()
     ensures { AllRunsStand }
+{}
+
+/// In each run of each opening, with stops, splits and joins, that has come to a world in which nothing is on its way: each call whose library
+/// lives was answered, live libraries have no open call, and live bricks have nothing pending, no lease, no open order, nothing that they resolve
+/// and no question that they put off.
+pub fn quiet_answers()
+    ensures { QuietAnswers }
 {}
 
 /// No call is answered Lost where of each committing update's list a member lives, as long as the update is open.

@@ -1,11 +1,13 @@
-use Rattle.std.proofs.Common.{◌≡◌, ℕ, zero, suc, ◌+◌, ◌-◌, ◌≤◌, ◌&&◌, ◌++◌, Bool, true, false, Option, None, List, [], refl, ap, ◌∙◌, arith}
+use Rattle.std.proofs.Common.{◌≡◌, ℕ, zero, suc, ◌+◌, ◌-◌, ◌≤◌, ◌&&◌, ◌++◌, Bool, true, false, Option, Some, None, List, [], refl, ap, ◌∙◌, arith}
 use Rattle.std.proofs.lemmas.Bool.Decides.{nat_tests}
 use Rattle.std.specs.Prelude.{nat_lt, replicate, slice_get, slice_index_or, if◌then◌else◌}
+use Rattle.dds_base.specs.declared.number.CallNo.{CallNo}
 use Rattle.dds_script.specs.Opening.{OpeningOf}
 use Rattle.dds_states.specs.declared.library_state.LibraryState.{LibraryState}
-use Rattle.dds_cluster.specs.Trace.{start}
+use Rattle.dds_cluster.specs.Trace.{new_callers, start}
 use Rattle.dds_cluster.specs.World.{new_brick, new_bricks, new_library, new_libraries}
 use Rattle.dds_cluster.specs.declared.step.Message.{Message}
+use Rattle.dds_cluster.specs.declared.trace.Caller.{Caller}
 use Rattle.dds_net.specs.Net.{Node, nowhere, a_brick, a_library, channel, is_in, letters_of, net, node_in, place_in, sent, sizes_of, when_in}
 
 -- The nodes and channels before the first step.
@@ -63,3 +65,15 @@ pub start-channel : (o : OpeningOf) (a b : ℕ) → (net (sizes_of o) (start o).
 start-channel o a b =
     ap (λ ms. when_in (is_in (sizes_of o) a && is_in (sizes_of o) b) (letters_of ms)) (nothing-sent o (place_in o.bricks a) (place_in o.bricks b))
     ∙ when-empty (is_in (sizes_of o) a && is_in (sizes_of o) b)
+
+-- no caller has a call open
+pub no-call-open : (libraries k n i : ℕ) (x : Caller) (call : CallNo) → slice_get (new_callers libraries k n) i ≡ Some x → x.call ≡ Some call → ⊥
+no-call-open libraries zero n i x call e f = cc
+no-call-open libraries (suc k) n zero x call e f =
+    let no : None ≡ Some call = ap call_then e ∙ f in
+    cc
+  where
+    call_then : Option Caller → Option CallNo
+    call_then None = None
+    call_then (Some y) = y.call
+no-call-open libraries (suc k) n (suc i) x call e f = no-call-open libraries k (n + 1) i x call e f

@@ -33,7 +33,8 @@ use Rattle.dds_order_ends.proofs.Events.{AreEnding, Ends, NodeEnds}
 use Rattle.dds_order_ends.proofs.Lines.{awaited-speaks, off-silent}
 use Rattle.dds_order_ends.proofs.Live.{Spoken, awaited-bricks, brick-inside, brick-parts, brick-placed, live-talk, live-unknown, unknown-live}
 use Rattle.dds_order_ends.proofs.Mine.{IsMine}
-use Rattle.dds_order_ends.specs.Quiet.{HasNoOrders, PartsGoOn}
+use Rattle.dds_order_ends.specs.Quiet.{HasNoOrders}
+use Rattle.dds_order_talk.specs.Seen.{PartsGoOn}
 use Rattle.dds_order_ends.specs.Waiting.{Waits, awaited}
 
 -- Where nothing is on its way, no live brick has an open order, or has given a lease.

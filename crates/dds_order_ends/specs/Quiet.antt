@@ -1,23 +1,14 @@
 -- Where nothing is on its way, orders are over and leases are given back.
-use Rattle.std.specs.Prelude.{ℕ, ◌≡◌, false, true, List, [], Some, None}
+use Rattle.std.specs.Prelude.{◌≡◌, true, List, [], None}
 use Rattle.dds_base.specs.declared.number.NodeNo.{NodeNo}
 use Rattle.dds_cluster.specs.Trace.{is_run}
 use Rattle.dds_cluster.specs.declared.step.Step.{Step}
-use Rattle.dds_net.specs.Net.{Net, a_brick, net, sizes_of}
-use Rattle.dds_order_talk.specs.Seen.{asks, says}
+use Rattle.dds_net.specs.Net.{net, sizes_of}
+use Rattle.dds_order_talk.specs.Seen.{PartsGoOn}
 use Rattle.dds_script.specs.Opening.{IsOpening, OpeningOf}
 use Rattle.dds_states.specs.declared.brick_state.BrickState.{BrickState}
-use Rattle.dds_states.specs.declared.brick_state.OpenOrder.{OpenOrder}
-use Rattle.dds_states.specs.declared.brick_state.OrderPhase.TheVariants.{Copying}
 use Rattle.dds_world.specs.Places.{IsLive, reached}
 use Rattle.dds_world.specs.Quiet.{Quiet}
-
--- copying goes on: between a live brick that copies and the live member that it copies from, a CopyAsk or a CopyPart of the order is on its
--- way, so that no part was heard that didn't fit
-abbrev pub PartsGoOn : Net → Type 0
-PartsGoOn n =
-    (j m : ℕ) (s t : BrickState) (o : OpenOrder) → n.node j ≡ a_brick s → n.node m ≡ a_brick t → s.stopped ≡ false → t.stopped ≡ false
-    → s.order ≡ Some o → o.phase ≡ Copying m → asks (Some o) o.name (n.channel j m) ≡ [] → says (Some o) o.name (n.channel m j) ≡ [] → ⊥
 
 -- a brick has no open order, and has given no lease
 pub record HasNoOrders (s : BrickState) : Type 0 where

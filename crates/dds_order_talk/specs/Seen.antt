@@ -137,3 +137,10 @@ abbrev pub JoinersAreUnlisted : Net → Type 0
 JoinersAreUnlisted n =
     (j m : ℕ) (s t : BrickState) (p : OpenOrder) (leaf : Leaf) → n.node j ≡ a_brick s → n.node m ≡ a_brick t → s.stopped ≡ false
     → t.stopped ≡ false → (m ≡ j → ⊥) → s.order ≡ Some p → p.leaf ≡ None → get t.leaves p.name ≡ Some leaf → has leaf.list j ≡ false
+
+-- copying goes on: between a live brick that copies and the live member that it copies from, a CopyAsk or a CopyPart of the order is on its
+-- way, so that no part was heard that didn't fit
+abbrev pub PartsGoOn : Net → Type 0
+PartsGoOn n =
+    (j m : ℕ) (s t : BrickState) (o : OpenOrder) → n.node j ≡ a_brick s → n.node m ≡ a_brick t → s.stopped ≡ false → t.stopped ≡ false
+    → s.order ≡ Some o → o.phase ≡ Copying m → asks (Some o) o.name (n.channel j m) ≡ [] → says (Some o) o.name (n.channel m j) ≡ [] → ⊥

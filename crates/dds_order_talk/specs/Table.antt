@@ -75,7 +75,7 @@ FitsAsked (wanted.Leaf told) leaf = told ≡ leaf
 -- | `said_so`  | Due leaf made    | -                  | yes         | what was made     | installed | it installed it                      |
 -- | `done`     | Done leaf made   | -                  | yes         | what was made     | -         | that was heard, another one's is due |
 --
--- `first` and `heard` stand within a turn alone; `dropped` is where a part doesn't fit, which is excluded by what bricks hold.
+-- `first` and `heard` stand within a turn alone; `dropped` is where a part doesn't fit: between live bricks that doesn't occur (`dds_room`).
 pub data Talk (x : Name) (Own New : Leaf → Type 0) : View → List Ask → Bool → List Say → Type 0 where
   off : {w : List Ask} {given : Bool} → Stale [] w given → Talk x Own New Off w given []
   asked :

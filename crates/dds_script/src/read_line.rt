@@ -41,11 +41,25 @@ fn read_text(alloc: Global, text: &[u8], ranges: &Ranges) -> Result<Line, LineFa
 }
 
 /// The line that the words of the text are.
-pub(crate) fn read_words(alloc: Global, ranges: &Ranges, text: &[u8]) -> Result<Line, LineFault>
+fn read_words(alloc: Global, ranges: &Ranges, text: &[u8]) -> Result<Line, LineFault>
     requires { IsRanges ranges.now }
     ensures { AreRead ranges.now (words text.now) result }
 {
-    match cut_words(text) {
+    read_cut(alloc, ranges, text, cut_words(text))
+}
+
+/// The line that the words of the text are, which was cut into them.
+pub(crate) fn read_cut(
+    alloc: Global,
+    ranges: &Ranges,
+    text: &[u8],
+    cut: Words<'_>,
+) -> Result<Line, LineFault>
+    requires ranges { IsRanges ranges.now }
+    requires cut { IsCut (words text.now) cut }
+    ensures { AreRead ranges.now (words text.now) result }
+{
+    match cut {
         Words::One(a) => read_one(a, ranges),
         Words::Two(a, b) => read_two(ranges, a, b),
         Words::Three(a, b, c) => read_three(ranges, a, b, c),

@@ -1,6 +1,7 @@
 //! Taking one line of a script.
 
 ghost use Rattle.std.specs.Prelude.{◌≡◌, Bool, [], ◌∷◌, IfOk};
+ghost use Rattle.dds_script.specs.Cutting.{IsCut};
 ghost use Rattle.dds_script.specs.Fields.{IsLineOf};
 ghost use Rattle.dds_script.specs.Forms.{form_of};
 ghost use Rattle.dds_script.specs.Grammar.{AreTaken, IsTaken, after_blank};
@@ -12,7 +13,7 @@ use crate::cuts::{Words, cut_words};
 use crate::line::Line;
 use crate::place::Place;
 use crate::ranges::LineFault;
-use crate::read_line::read_words;
+use crate::read_line::read_cut;
 use crate::reader::Reader;
 use crate::script_error::ScriptKind;
 use crate::take_opening::{take_cluster, take_leaf, take_old, unopened};
@@ -55,12 +56,13 @@ fn take_words(alloc: Global, reader: &mut Reader, text: &[u8]) -> Result<Option<
     requires { IsSound reader.old }
     ensures { IfOk result (λ kind. AreTaken reader.old (words text.now) reader.new kind) }
 {
-    match cut_words(text) {
+    let cut = cut_words(text);
+    match cut {
         Words::Three(a, b, c) => {
             if same(a, b"leaf") {
                 return take_leaf(alloc, reader, b, c);
             }
-            take_line(alloc, reader, text)
+            take_line(alloc, reader, text, cut)
         }
         Words::Four(a, b, c, d) => {
             if same(a, b"cluster") {
@@ -69,19 +71,25 @@ fn take_words(alloc: Global, reader: &mut Reader, text: &[u8]) -> Result<Option<
             if same(a, b"old") {
                 return take_old(alloc, reader, b, c, d);
             }
-            take_line(alloc, reader, text)
+            take_line(alloc, reader, text, cut)
         }
-        _ => take_line(alloc, reader, text),
+        _ => take_line(alloc, reader, text, cut),
     }
 }
 
 /// Takes the words of a line that is none of the opening.
-fn take_line(alloc: Global, reader: &mut Reader, text: &[u8]) -> Result<Option<ScriptKind>, Memory>
+fn take_line(
+    alloc: Global,
+    reader: &mut Reader,
+    text: &[u8],
+    cut: Words<'_>,
+) -> Result<Option<ScriptKind>, Memory>
     requires sound { IsSound reader.old }
+    requires cut { IsCut (words text.now) cut }
     requires behind { IsBehind (form_of (words text.now)) }
     ensures { IfOk result (λ kind. AreTaken reader.old (words text.now) reader.new kind) }
 {
-    match read_words(alloc, &reader.ranges, text) {
+    match read_cut(alloc, &reader.ranges, text, cut) {
         Ok(line) => put_line(reader, text, line),
         Err(LineFault::Form) => Ok(Some(ScriptKind::Form)),
         Err(LineFault::Number) => Ok(Some(late(reader.place, ScriptKind::Number))),

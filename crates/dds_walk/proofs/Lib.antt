@@ -12,3 +12,7 @@ pub mod Entries
 pub mod Rank
 pub mod Changed
 pub mod Kept
+pub mod Numbers
+pub mod Ranks
+pub mod Stops
+pub mod Quiet

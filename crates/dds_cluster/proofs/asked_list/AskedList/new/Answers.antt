@@ -6,5 +6,5 @@ use Rattle.dds_cluster.proofs.asked_list.AskedList.new.Goals as goal
 
 pub invariant_of-result : goal.invariant_of-result
 invariant_of-result c =
-    keys-none call_cmp (λ (name : CallName) (x : Asked). is_call_of name.caller name.call x) c.new.result.items c.new.result.keys c.new.ensures.items
-    c.new.ensures.keys
+    keys-none call_cmp (λ (name : CallName) (x : Asked). is_call_of name.caller name.call x) c.new.result.items
+    c.new.result.rising.items c.new.result.others c.new.ensures.items c.new.ensures.rising c.new.ensures.keys

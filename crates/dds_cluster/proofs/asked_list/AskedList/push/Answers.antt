@@ -13,5 +13,6 @@ its-key a name = grind (arith, nat_tests)
 pub invariant_of-self : goal.invariant_of-self
 invariant_of-self c =
     keys-after call_cmp (λ (name : CallName) (x : Asked). is_call_of name.caller name.call x) c.self.inside.calls.items c.push.new.self.items c.args.asked
-    (Some (record { caller = c.args.asked.caller; call = c.args.asked.call })) c.self.inside.calls.keys c.push.new.self.keys c.push.result c.self.invariant
-    (its-key c.args.asked) c.push.ensures.items c.push.ensures.keys c.push.ensures.items_err c.push.ensures.keys_err
+    (Some (record { caller = c.args.asked.caller; call = c.args.asked.call })) c.self.inside.calls.rising.items
+    c.self.inside.calls.others c.push.new.self.rising.items c.push.new.self.others c.push.result c.self.invariant
+    (its-key c.args.asked) c.push.ensures.rising c.push.ensures.items c.push.ensures.keys c.push.ensures.items_err c.push.ensures.keys_err

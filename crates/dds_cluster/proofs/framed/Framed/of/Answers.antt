@@ -6,4 +6,4 @@ invariant_of-result c = spells-own _ _ c.in_ok-frame.ensures
 
 pub returns : goal.returns
 returns c =
-    same-message c.args.message _ (letter-is _ _ c.in_ok-frame.ensures)
+    same-message c.args.message.now _ (letter-is _ _ c.in_ok-frame.ensures)

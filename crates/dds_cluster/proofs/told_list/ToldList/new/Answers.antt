@@ -6,4 +6,5 @@ use Rattle.dds_cluster.proofs.told_list.ToldList.new.Goals as goal
 
 pub invariant_of-result : goal.invariant_of-result
 invariant_of-result c =
-    keys-none txn_cmp (λ txn (r : Told). is_read_of txn r.read) c.new.result.items c.new.result.keys c.new.ensures.items c.new.ensures.keys
+    keys-none txn_cmp (λ txn (r : Told). is_read_of txn r.read) c.new.result.items
+    c.new.result.rising.items c.new.result.others c.new.ensures.items c.new.ensures.rising c.new.ensures.keys

@@ -15,5 +15,6 @@ its-key (Some read) txn = grind (arith, nat_tests)
 pub invariant_of-self : goal.invariant_of-self
 invariant_of-self c =
     keys-after txn_cmp (λ txn (r : Told). is_read_of txn r.read) c.self.inside.answers.items c.push.new.self.items c.args.told c.args.told.read
-    c.self.inside.answers.keys c.push.new.self.keys c.push.result c.self.invariant (its-key c.args.told.read) c.push.ensures.items c.push.ensures.keys
+    c.self.inside.answers.rising.items c.self.inside.answers.others c.push.new.self.rising.items c.push.new.self.others c.push.result c.self.invariant
+    (its-key c.args.told.read) c.push.ensures.rising c.push.ensures.items c.push.ensures.keys
     c.push.ensures.items_err c.push.ensures.keys_err

@@ -1,0 +1,14 @@
+pub mod Steady
+pub mod SteadyKeeps
+pub mod Lists
+pub mod Stays
+pub mod MemberNotices
+pub mod Owing
+pub mod OwingTurns
+pub mod MemberTurns
+pub mod Facts
+pub mod HelpTakes
+pub mod HelpEvents
+pub mod HelpKeeps
+pub mod Quiet
+pub mod Runs

@@ -1,0 +1,17 @@
+pub mod TakenKeys
+pub mod Counts
+pub mod Takes
+pub mod Gains
+pub mod Leaves
+pub mod RoomAfter
+pub mod Prepares
+pub mod RoomTurns
+pub mod Smalls
+pub mod RoomKeeps
+pub mod Copying
+pub mod Fits
+pub mod Busy
+pub mod Lines
+pub mod Going
+pub mod PartsKeep
+pub mod Runs
