@@ -59,15 +59,20 @@ const KINDS: [&str; 24] = [
 /// Two notices.
 const STREAM: [u8; 12] = [0, 0, 0, 2, 2, 24, 0, 0, 0, 2, 2, 24];
 
+/// Where the frame at the front of these bytes ends, or its fault.
+fn end_in(alloc: Global, bytes: &[u8]) -> Result<usize, FrameFault> {
+    match decode(alloc, bytes) {
+        Ok((_, end)) => Ok(end),
+        Err(fault) => Err(fault),
+    }
+}
+
 /// Where the frame of these hexadecimal digits ends, or its fault.
 fn end_of(alloc: Global, text: &str) -> Result<usize, FrameFault> {
     let Ok(bytes) = hex::decode(alloc, text) else {
         return Err(FrameFault::Memory);
     };
-    match decode(alloc, &bytes) {
-        Ok((_, end)) => Ok(end),
-        Err(fault) => Err(fault),
-    }
+    end_in(alloc, &bytes)
 }
 
 #[test]
@@ -95,6 +100,45 @@ fn is_written_as_read(alloc: Global, text: &str) -> bool {
 fn each_kind_is_read_and_written(rt: HostRuntime) {
     for text in &KINDS {
         assert!(rt; is_written_as_read(rt.alloc(), text), "{text}");
+    }
+}
+
+/// Whether each proper beginning of the frame is too short.
+fn is_short_where_cut(alloc: Global, frame: &[u8]) -> bool {
+    for end in 0..frame.len() {
+        if end_in(alloc, &frame[..end]) != Err(FrameFault::Short) {
+            return false;
+        }
+    }
+    true
+}
+
+/// Whether the frame is refused at a byte more, which its length counts, and then with the version 0.
+fn is_refused_where_changed(alloc: Global, mut frame: Vec<u8>) -> bool {
+    let at = frame.len();
+    if at < 6 || frame.push(0).is_err() {
+        return false;
+    }
+    frame[3] = frame[3].wrapping_add(1);
+    if end_in(alloc, &frame) != Err(FrameFault::BadField { at }) {
+        return false;
+    }
+    frame[4] = 0;
+    end_in(alloc, &frame) == Err(FrameFault::BadTag { at: 4 })
+}
+
+/// Whether the frame is read as it is alone: cut, lengthened or with another version it is refused.
+fn is_read_whole_alone(alloc: Global, text: &str) -> bool {
+    let Ok(frame) = hex::decode(alloc, text) else {
+        return false;
+    };
+    is_short_where_cut(alloc, &frame) && is_refused_where_changed(alloc, frame)
+}
+
+#[test]
+fn each_kind_is_read_whole_alone(rt: HostRuntime) {
+    for text in &KINDS {
+        assert!(rt; is_read_whole_alone(rt.alloc(), text), "{text}");
     }
 }
 

@@ -16,3 +16,4 @@ pub mod Numbers
 pub mod Ranks
 pub mod Stops
 pub mod Quiet
+pub mod Noted

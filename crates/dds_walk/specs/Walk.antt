@@ -64,6 +64,19 @@ abbrev pub orders_after : Walk → Step → List (Option OrderKind)
 orders_after w s =
     if is_possible w.trace s then orders_by w.orders (list_any is_order_reply (replies_in w.trace s)) s else w.orders
 
+-- the same, without asking whether a step that is no input is possible
+abbrev pub may_note : Trace → Step → Bool
+may_note t (step.Input node i) = is_possible t (step.Input node i)
+may_note t (step.Handle node from) = false
+may_note t (step.Post node) = false
+may_note t (step.Stop node) = false
+
+abbrev pub noted : List (Option OrderKind) → Bool → Bool → Step → List (Option OrderKind)
+noted orders possible answered (step.Input node i) = if possible then orders_in orders node answered i else orders
+noted orders possible answered (step.Handle node from) = if answered then slice_set orders node None else orders
+noted orders possible answered (step.Post node) = orders
+noted orders possible answered (step.Stop node) = orders
+
 -- the order that a step may answer: its own, or the one open at its brick
 abbrev pub kind_in : Input → Option OrderKind
 kind_in (input.Call caller call op) = None

@@ -1,8 +1,8 @@
 //! A walk with one step more.
 
-ghost use Rattle.std.specs.Prelude.{◌≡◌, ◌++◌, None, map, is_some, slice_get, slice_set, slice_index_or, IfOk, OnOk, if◌then◌else◌};
+ghost use Rattle.std.specs.Prelude.{◌≡◌, ◌++◌, None, map, is_some, slice_get, slice_set, slice_index_or, IfOk, OnOk};
 ghost use Rattle.std.specs.List.{list_any};
-ghost use Rattle.dds_walk.specs.Walk.{is_order_reply, kind_at, kind_in, kind_or_join, lead_in, left, makes, orders_by, orders_in, played};
+ghost use Rattle.dds_walk.specs.Walk.{is_order_reply, kind_at, kind_in, kind_or_join, lead_in, left, makes, may_note, noted, orders_in, played};
 ghost use Rattle.dds_walk.specs.Walk.{plays_some, reply_line, rest_of, says, tries};
 
 use crate::same::{kind_of, lead, node_of};
@@ -12,15 +12,17 @@ use dds_base::memory::Memory;
 use dds_base::number::NodeNo;
 use dds_cluster::possible::is_possible;
 use dds_cluster::step::{Input, Step};
+use dds_cluster::trace::Trace;
 use dds_states::turn::{Replied, ReplyList};
 use dds_transcript::report_line::{OrderKind, ReportLine};
 use std::alloc::Global;
 
 /// Makes a step, and prints its answers.
+#[tactic(auto, using(crate::proofs::Noted::orders_noted))]
 pub fn play(alloc: Global, walk: &mut Walk, step: Step) -> Result<(), Memory>
     ensures { OnOk result (walk.new ≡ played walk.old step) }
 {
-    let possible = is_possible(walk.trace.as_trace(), &step);
+    let possible = may_note(walk.trace.as_trace(), &step);
     let kind = kind_at(walk.orders.as_slice(), &step);
     let replies = walk.trace.next(alloc, &step)?;
     let answered = has_order_reply(replies.as_slice());
@@ -42,20 +44,26 @@ fn is_order_reply(reply: &Replied) -> bool
     matches!(reply, Replied::Order(_))
 }
 
-/// The orders that are open after a step.
-fn note_order(orders: &mut Items<Option<OrderKind>>, possible: bool, answered: bool, step: &Step)
-    ensures { orders.new ≡ (if possible then orders_by orders.old answered step.now else orders.old) }
+/// Whether the step is an input that is possible. No other step needs it: one that isn't possible answers nothing.
+fn may_note(trace: &Trace, step: &Step) -> bool
+    ensures { result ≡ may_note trace.now step.now }
 {
-    if possible {
-        note_possible(orders, answered, step);
+    match step {
+        Step::Input { node: _, input: _ } => is_possible(trace, step),
+        _ => false,
     }
 }
 
-fn note_possible(orders: &mut Items<Option<OrderKind>>, answered: bool, step: &Step)
-    ensures { orders.new ≡ orders_by orders.old answered step.now }
+/// The orders that are open after a step.
+fn note_order(orders: &mut Items<Option<OrderKind>>, possible: bool, answered: bool, step: &Step)
+    ensures { orders.new ≡ noted orders.old possible answered step.now }
 {
     match step {
-        Step::Input { node, input } => note_input(orders, *node, answered, input.as_input()),
+        Step::Input { node, input } => {
+            if possible {
+                note_input(orders, *node, answered, input.as_input());
+            }
+        }
         Step::Handle { node, from: _ } => {
             if answered {
                 set_order(orders, *node, None);
